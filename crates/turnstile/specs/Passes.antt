@@ -1,0 +1,40 @@
+-- What a clause says of a turnstile and of a pass.
+use Rattle.std.specs.Prelude.{◌≡◌, ℕ, true, false, [], ◌∷◌, Some, None}
+use Rattle.atomic_table.specs.Seated.{TableId}
+use Rattle.turnstile.specs.Own.{out_of}
+use Rattle.turnstile.specs.declared.turn.Pass.{Pass}
+use Rattle.turnstile.specs.declared.turn.Turnstile.{Turnstile}
+
+module _ {T : Type 0} where
+  -- the value with which the turnstile was made
+  abbrev pub made_with : Turnstile T → T
+  made_with t = t.table.shared.key.value
+
+  -- how many passes were made
+  abbrev pub passes_out : Turnstile T → ℕ
+  passes_out t = out_of t.own
+
+  -- the identity of its table
+  abbrev pub table_of : Turnstile T → TableId
+  table_of t = t.table.shared.table_id
+
+  -- it is a pass of this turnstile
+  abbrev pub IsPassOf : Turnstile T → Pass T → Type 0
+  IsPassOf t p = (p.seat.table_id ≡ t.table.shared.table_id) × (p.seat.me.0.made ≡ Some (made_with t)) × (p.seat.me.0.is_pass ≡ true)
+
+module _ {T : Type 0} where
+  -- it holds nothing
+  abbrev pub IsOutside : Pass T → Type 0
+  IsOutside p = (p.seat.me.0.inside ≡ false) × (p.seat.me.1 ≡ [])
+
+  -- it holds the turnstile's slot, and the value is out of it
+  abbrev pub IsInside : Pass T → Type 0
+  IsInside p = (p.seat.me.0.inside ≡ true) × (p.seat.me.1 ≡ (0, None) ∷ [])
+
+  -- how often it came in
+  abbrev pub entries : Pass T → ℕ
+  entries p = p.seat.me.0.entries
+
+  -- how many of its tries found the turnstile held
+  abbrev pub busy : Pass T → ℕ
+  busy p = p.seat.me.0.busy

@@ -1,0 +1,21 @@
+//! A try-lock of one slot: a value that one of many passes at a time takes out and puts back.
+//!
+//! The shared object is a table of one word and one slot. Word 0 is the flag, 0 free and 1 held. Slot 0 holds the value, or nothing while a pass is inside. No call waits: a try that finds the flag held answers `Busy`.
+#![tactic(auto)]
+
+mod calls;
+mod gate;
+mod laws;
+mod named;
+mod own;
+mod plays;
+mod turn;
+mod view;
+
+pub use gate::{Gate, OpenGate};
+pub use laws::one_inside;
+pub use named::Named;
+pub use turn::{Busy, Pass, Refused, Turnstile};
+
+#[cfg(test)]
+mod tests;
