@@ -1,0 +1,415 @@
+/*
+    Answers a session of sdmp with FLINT, in the same text, to be measured
+    beside it.
+
+        flint_peer [--heap] [--workers W]
+
+    Without --heap FLINT chooses its method (fmpz_mpoly_mul and its kin);
+    with it products and divisions are made by its heap methods. What FLINT
+    leaves out is left out here: faults of the reader, degree bounds, and the
+    bounds of a division. A session is taken to be right.
+*/
+#include <stdint.h>
+#include <stdio.h>
+#include <stdlib.h>
+#include <string.h>
+#include <unistd.h>
+#include <flint/flint.h>
+#include <flint/fmpz.h>
+#include <flint/fmpz_mpoly.h>
+#include <flint/nmod_mpoly.h>
+
+typedef unsigned __int128 u128;
+
+#define MOST_VARIABLES 16
+#define PIECE ((size_t) 1 << 18)
+
+static int heap, modular, variables;
+static ulong modulus;
+static const char * variable[MOST_VARIABLES];
+static int variable_length[MOST_VARIABLES];
+static fmpz_mpoly_ctx_t integers;
+static nmod_mpoly_ctx_t residues;
+
+/* what a one-letter name stands for */
+typedef struct
+{
+    fmpz_mpoly_t z;
+    nmod_mpoly_t n;
+} polynomial;
+
+static polynomial defined[128];
+
+/* ---- output */
+
+static char out[2*PIECE];
+static size_t out_length;
+
+static void
+flush(void)
+{
+    size_t done = 0;
+    while (done < out_length)
+    {
+        ssize_t n = write(1, out + done, out_length - done);
+        if (n <= 0)
+            exit(4);
+        done += n;
+    }
+    out_length = 0;
+}
+
+static void
+put(char c)
+{
+    out[out_length++] = c;
+}
+
+static void
+put_number(u128 v)
+{
+    char digits[40];
+    int i = 40;
+    while (v >> 64)
+    {
+        digits[--i] = '0' + (int) (v % 10);
+        v /= 10;
+    }
+    uint64_t low = v;
+    do
+        digits[--i] = '0' + low % 10;
+    while (low /= 10);
+    memcpy(out + out_length, digits + i, 40 - i);
+    out_length += 40 - i;
+}
+
+static void
+put_term(int first, int negative, u128 size, const ulong * exponents)
+{
+    int i, starred, constant = 1;
+    for (i = 0; i < variables; i++)
+        constant &= exponents[i] == 0;
+    if (negative)
+        put('-');
+    else if (!first)
+        put('+');
+    starred = size != 1 || constant;
+    if (starred)
+        put_number(size);
+    for (i = 0; i < variables; i++)
+    {
+        if (exponents[i] == 0)
+            continue;
+        if (starred)
+            put('*');
+        starred = 1;
+        memcpy(out + out_length, variable[i], variable_length[i]);
+        out_length += variable_length[i];
+        if (exponents[i] > 1)
+        {
+            put('^');
+            put_number(exponents[i]);
+        }
+    }
+    if (out_length > PIECE)
+        flush();
+}
+
+static u128
+size_of(const fmpz * c)
+{
+    fmpz_t a;
+    ulong high, low;
+    fmpz_init(a);
+    fmpz_abs(a, c);
+    fmpz_get_uiui(&high, &low, a);
+    fmpz_clear(a);
+    return (u128) high << 64 | low;
+}
+
+static void
+put_integers(const fmpz_mpoly_t f)
+{
+    ulong e[MOST_VARIABLES];
+    slong i, words = mpoly_words_per_exp(f->bits, integers->minfo);
+    if (f->length == 0)
+        put('0');
+    for (i = 0; i < f->length; i++)
+    {
+        const fmpz * c = f->coeffs + i;
+        mpoly_get_monomial_ui(e, f->exps + words*i, f->bits, integers->minfo);
+        if (!COEFF_IS_MPZ(*c))
+            put_term(i == 0, *c < 0, *c < 0 ? -(ulong) *c : (ulong) *c, e);
+        else
+            put_term(i == 0, fmpz_sgn(c) < 0, size_of(c), e);
+    }
+    put('\n');
+}
+
+static void
+put_residues(const nmod_mpoly_t f)
+{
+    ulong e[MOST_VARIABLES];
+    slong i, words = mpoly_words_per_exp(f->bits, residues->minfo);
+    if (f->length == 0)
+        put('0');
+    for (i = 0; i < f->length; i++)
+    {
+        mpoly_get_monomial_ui(e, f->exps + words*i, f->bits, residues->minfo);
+        put_term(i == 0, 0, f->coeffs[i], e);
+    }
+    put('\n');
+}
+
+static void
+put_none(void)
+{
+    memcpy(out + out_length, "none\n", 5);
+    out_length += 5;
+}
+
+/* ---- definitions */
+
+static int
+variable_of(const char * name, int length)
+{
+    int i;
+    for (i = 0; i < variables; i++)
+        if (variable_length[i] == length && memcmp(variable[i], name, length) == 0)
+            return i;
+    exit(9);
+}
+
+static int
+is_name_byte(int c)
+{
+    return (c >= 'a' && c <= 'z') || (c >= 'A' && c <= 'Z') || (c >= '0' && c <= '9') || c == '_';
+}
+
+static u128
+number(const char ** p)
+{
+    uint64_t low = 0;
+    int digits = 0;
+    u128 v;
+    while (**p >= '0' && **p <= '9' && digits++ < 18)
+        low = 10*low + (*(*p)++ - '0');
+    v = low;
+    while (**p >= '0' && **p <= '9')
+        v = 10*v + (*(*p)++ - '0');
+    return v;
+}
+
+static void
+push_term(polynomial * f, int negative, u128 size, const ulong * e)
+{
+    if (modular)
+    {
+        ulong c = (ulong) (size % modulus);
+        if (c != 0)
+            nmod_mpoly_push_term_ui_ui(f->n, negative ? modulus - c : c, e, residues);
+    }
+    else
+    {
+        fmpz_t c;
+        fmpz_init(c);
+        fmpz_set_uiui(c, (ulong) (size >> 64), (ulong) size);
+        if (negative)
+            fmpz_neg(c, c);
+        fmpz_mpoly_push_term_fmpz_ui(f->z, c, e, integers);
+        fmpz_clear(c);
+    }
+}
+
+/* the text from p up to the line's end, without spaces inside */
+static void
+define(polynomial * f, const char * p)
+{
+    ulong e[MOST_VARIABLES];
+    if (modular)
+        nmod_mpoly_init(f->n, residues);
+    else
+        fmpz_mpoly_init(f->z, integers);
+    while (*p == ' ')
+        p++;
+    while (*p)
+    {
+        int negative = *p == '-', more = 1;
+        u128 size = 1;
+        if (*p == '+' || *p == '-')
+            p++;
+        memset(e, 0, sizeof e);
+        if (*p >= '0' && *p <= '9')
+        {
+            size = number(&p);
+            more = *p == '*' && p++;
+        }
+        while (more)
+        {
+            const char * name = p;
+            int at;
+            while (is_name_byte(*p))
+                p++;
+            at = variable_of(name, p - name);
+            e[at] += *p == '^' ? (p++, (ulong) number(&p)) : 1;
+            more = *p == '*' && p++;
+        }
+        push_term(f, negative, size, e);
+    }
+    if (modular)
+    {
+        nmod_mpoly_sort_terms(f->n, residues);
+        nmod_mpoly_combine_like_terms(f->n, residues);
+    }
+    else
+    {
+        fmpz_mpoly_sort_terms(f->z, integers);
+        fmpz_mpoly_combine_like_terms(f->z, integers);
+    }
+}
+
+/* ---- commands */
+
+static void
+answer_integers(const char * command, fmpz_mpoly_t f, fmpz_mpoly_t g)
+{
+    fmpz_mpoly_t q, r;
+    fmpz_mpoly_init(q, integers);
+    fmpz_mpoly_init(r, integers);
+    if (strcmp(command, "show") == 0)
+        put_integers(f);
+    else if (strcmp(command, "mul") == 0)
+    {
+        if (heap)
+            fmpz_mpoly_mul_johnson(q, f, g, integers);
+        else
+            fmpz_mpoly_mul(q, f, g, integers);
+        put_integers(q);
+    }
+    else if (strcmp(command, "div") == 0)
+    {
+        int exact = heap ? fmpz_mpoly_divides_monagan_pearce(q, f, g, integers) : fmpz_mpoly_divides(q, f, g, integers);
+        if (exact)
+            put_integers(q);
+        else
+            put_none();
+    }
+    else
+    {
+        fmpz_mpoly_divrem(q, r, f, g, integers);
+        put_integers(q);
+        put_integers(r);
+    }
+    fmpz_mpoly_clear(q, integers);
+    fmpz_mpoly_clear(r, integers);
+}
+
+static void
+answer_residues(const char * command, nmod_mpoly_t f, nmod_mpoly_t g)
+{
+    nmod_mpoly_t q, r;
+    nmod_mpoly_init(q, residues);
+    nmod_mpoly_init(r, residues);
+    if (strcmp(command, "show") == 0)
+        put_residues(f);
+    else if (strcmp(command, "mul") == 0)
+    {
+        if (heap)
+            nmod_mpoly_mul_johnson(q, f, g, residues);
+        else
+            nmod_mpoly_mul(q, f, g, residues);
+        put_residues(q);
+    }
+    else if (strcmp(command, "div") == 0)
+    {
+        int exact = heap ? nmod_mpoly_divides_monagan_pearce(q, f, g, residues) : nmod_mpoly_divides(q, f, g, residues);
+        if (exact)
+            put_residues(q);
+        else
+            put_none();
+    }
+    else
+    {
+        nmod_mpoly_divrem(q, r, f, g, residues);
+        put_residues(q);
+        put_residues(r);
+    }
+    nmod_mpoly_clear(q, residues);
+    nmod_mpoly_clear(r, residues);
+}
+
+static char *
+read_all(void)
+{
+    size_t room = PIECE, length = 0;
+    char * text = malloc(room + 1);
+    ssize_t n;
+    while ((n = read(0, text + length, room - length)) > 0)
+    {
+        length += n;
+        if (length == room)
+            text = realloc(text, (room *= 2) + 1);
+    }
+    text[length] = 0;
+    return text;
+}
+
+static void
+header(char * vars, char * ring)
+{
+    char * word;
+    strtok(vars, " ");
+    while ((word = strtok(NULL, " ")))
+    {
+        variable[variables] = word;
+        variable_length[variables++] = strlen(word);
+    }
+    modular = sscanf(ring, "ring mod %lu", &modulus) == 1;
+    if (modular)
+        nmod_mpoly_ctx_init(residues, variables, ORD_DEGLEX, modulus);
+    else
+        fmpz_mpoly_ctx_init(integers, variables, ORD_DEGLEX);
+}
+
+int
+main(int count, char ** words)
+{
+    int i, workers = 1;
+    char * vars, * ring, * line, * rest;
+    for (i = 1; i < count; i++)
+    {
+        if (strcmp(words[i], "--heap") == 0)
+            heap = 1;
+        else if (strcmp(words[i], "--workers") == 0 && i + 1 < count)
+            workers = atoi(words[++i]);
+        else
+            return 1;
+    }
+    flint_set_num_threads(workers);
+    rest = read_all();
+    vars = strsep(&rest, "\n");
+    ring = strsep(&rest, "\n");
+    header(vars, ring);
+    while ((line = strsep(&rest, "\n")))
+    {
+        char * equals = strchr(line, '=');
+        char * command, * f, * g;
+        if (equals)
+        {
+            define(&defined[line[0] & 127], equals + 1);
+            continue;
+        }
+        if (!(command = strtok(line, " ")))
+            continue;
+        f = strtok(NULL, " ");
+        g = strtok(NULL, " ");
+        if (!g)
+            g = f;
+        if (modular)
+            answer_residues(command, defined[f[0] & 127].n, defined[g[0] & 127].n);
+        else
+            answer_integers(command, defined[f[0] & 127].z, defined[g[0] & 127].z);
+    }
+    flush();
+    return 0;
+}
