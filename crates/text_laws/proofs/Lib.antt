@@ -1,0 +1,13 @@
+pub mod Run
+pub mod Texts
+pub mod Faults
+pub mod OneTree
+pub mod OneReading
+pub mod Fronts
+pub mod TreeTokens
+pub mod Denoting
+pub mod Printed
+pub mod Zero
+pub mod Limits
+pub mod CanonicalReads
+pub mod Examples
