@@ -1,0 +1,16 @@
+pub mod FaultPlace
+pub mod Extending
+pub mod PowerTexts
+pub mod TermParts
+pub mod TokenFronts
+pub mod Adding
+pub mod FactorLoop
+pub mod Products
+pub mod Vectors
+pub mod Pushing
+pub mod ReadTerm
+pub mod TermLoop
+pub mod Weights
+pub mod Reduced
+pub mod WordLemmas
+pub mod NameLemmas

@@ -1,0 +1,7 @@
+pub mod Words
+pub mod Names
+pub mod Tokens
+pub mod Exponents
+pub mod Reads
+pub mod ReadsTerms
+pub mod Printed
