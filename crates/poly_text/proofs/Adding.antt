@@ -1,5 +1,5 @@
 -- An exponent added at the variable of a name.
-use Rattle.std.proofs.Common.{◌≡◌, ◌<◌, ◌≤◌, ◌+◌, ℕ, Bool, true, false, min, cond, List, [], ◌∷◌, ◌++◌, length, take, drop, set, get_or, refl, sym, ◌∙◌, ap, append_assoc, append-nil, add-one, arith}
+use Rattle.std.proofs.Common.{◌≡◌, ◌<◌, ◌≤◌, ◌+◌, ℕ, true, false, min, cond, List, [], ◌∷◌, ◌++◌, length, take, drop, set, get_or, sym, ◌∙◌, ap, append_assoc, append-nil, add-one, arith}
 use Rattle.std.proofs.lemmas.List.{drop_more, drop_all, take_more, take_all, set_split}
 use Rattle.text_laws.specs.Summands.{same_name, is_known}
 use Rattle.poly_text.specs.Exponents.{added, top}

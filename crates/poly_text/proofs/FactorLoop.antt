@@ -1,5 +1,5 @@
 -- The loop over the factors of a term.
-use Rattle.std.proofs.Common.{◌≡◌, ◌<◌, ◌≤◌, ◌+◌, ℕ, cond, List, [], ◌∷◌, ◌++◌, length, drop, get_or, Some, None, Ok, Err, refl, sym, ◌∙◌, ap, append_assoc, length-drop, length-append, arith}
+use Rattle.std.proofs.Common.{◌≡◌, ◌<◌, ◌≤◌, ◌+◌, ℕ, cond, List, [], ◌∷◌, ◌++◌, length, drop, get_or, Some, Ok, Err, refl, sym, ◌∙◌, ap, append_assoc, length-drop, length-append, arith}
 use Rattle.std.proofs.lemmas.List.{drop_more, drop_all}
 use Rattle.text_laws.specs.Bytes.{class_of}
 use Rattle.text_laws.specs.Grammar.{Power, Factor, IsPower, AreFactors, spell_mark, spell_power, spell_factors, EndsPower, EndsTerm}

@@ -1,5 +1,5 @@
 -- The automaton goes on from where it stands.
-use Rattle.std.proofs.Common.{◌≡◌, ◌<◌, ◌≤◌, ◌+◌, ℕ, suc, true, false, cond, List, ◌∷◌, length, drop, get_or, Option, Some, None, refl, sym, ◌∙◌, ap, add-one, arith}
+use Rattle.std.proofs.Common.{◌≡◌, ◌<◌, ◌≤◌, ◌+◌, ℕ, true, cond, List, length, drop, get_or, Option, Some, None, sym, ◌∙◌, ap, add-one}
 use Rattle.std.proofs.lemmas.List.{drop_more, drop_all}
 use Rattle.text_laws.specs.Automaton.{next, is_whole, is_live, fault_from}
 use Rattle.text_laws.specs.Bytes.{class_of}

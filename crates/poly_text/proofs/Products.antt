@@ -1,8 +1,8 @@
 -- A term at the place.
-use Rattle.std.proofs.Common.{◌≡◌, ◌<◌, ◌≤◌, ◌+◌, ℕ, min, cond, List, [], ◌∷◌, ◌++◌, length, drop, get_or, Some, None, Ok, Err, refl, sym, ◌∙◌, ap, subst, append_assoc, length-append, arith}
+use Rattle.std.proofs.Common.{◌≡◌, ◌<◌, ◌≤◌, ◌+◌, ℕ, min, cond, List, [], ◌∷◌, ◌++◌, length, drop, get_or, Some, Ok, Err, refl, sym, ◌∙◌, ap, subst, append_assoc, length-append, arith}
 use Rattle.std.proofs.lemmas.List.{drop_more, drop_all}
 use Rattle.text_laws.specs.Bytes.{class_of}
-use Rattle.text_laws.specs.Grammar.{Word, Power, Factor, Head, Numeral, Symbol, Product, IsNumber, IsPower, AreFactors, IsHead, IsProduct, spell_word, spell_power, spell_factors, spell_head, spell_product, EndsPower, EndsTerm}
+use Rattle.text_laws.specs.Grammar.{Word, Power, Factor, Head, Numeral, Symbol, Product, IsPower, AreFactors, IsHead, IsProduct, spell_word, spell_power, spell_factors, spell_head, spell_product, EndsPower, EndsTerm}
 use Rattle.text_laws.specs.Summands.{Written, unknown_in, factors_at, number_of}
 use Rattle.text_laws.specs.Reading.{is_blank, is_digit}
 use Rattle.text_laws.specs.declared.ByteClass.{ByteClass}

@@ -1,5 +1,5 @@
 -- A term that was pushed, if there was one.
-use Rattle.std.proofs.Common.{◌≡◌, ◌++◌, [], ◌∷◌, List, All, Option, Some, None, refl, sym, subst, append-nil}
+use Rattle.std.proofs.Common.{◌≡◌, ◌++◌, List, All, Option, Some, None, refl, sym, subst, append-nil}
 use Rattle.std.specs.Prelude.{IfSome}
 use Rattle.std.proofs.lemmas.List.Elements.{All-push}
 use Rattle.canonical_terms.specs.declared.term.TermOf.{TermOf}

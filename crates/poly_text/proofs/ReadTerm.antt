@@ -1,5 +1,5 @@
 -- What was read of a term, against its tree.
-use Rattle.std.proofs.Common.{◌≡◌, ◌<◌, ◌≤◌, ◌+◌, ℕ, zero, suc, Bool, true, false, min, cond, eqb, List, [], ◌∷◌, length, take, replicate, Option, Some, None, Result, Ok, Err, ℤ, refl, sym, ◌∙◌, ap, subst, arith}
+use Rattle.std.proofs.Common.{◌≡◌, ◌<◌, ◌≤◌, ◌+◌, ℕ, zero, suc, Bool, true, false, min, cond, eqb, List, ◌∷◌, length, take, replicate, Option, Some, None, Result, Ok, Err, ℤ, refl, sym, ◌∙◌, ap, subst, arith}
 use Rattle.std.specs.Prelude.{MatchOption, MatchResult}
 use Rattle.std.specs.Result.{result_ok}
 use Rattle.std.proofs.lemmas.List.{take-replicate}
@@ -15,7 +15,6 @@ use Rattle.poly_text.specs.ReadsTerms.{weight, IsTermRead}
 use Rattle.poly_text.specs.Tokens.{cap}
 use Rattle.poly_text.specs.declared.factors.UnknownName.{UnknownName}
 use Rattle.poly_text.specs.declared.term.ProductRead.{ProductRead}
-use Rattle.poly_text.specs.declared.terms.TermRead.{TermRead}
 use Rattle.poly_text.proofs.Vectors.{exponents_add_up, degree_is}
 
 -- ---- the sign of a term matters to its coefficient alone

@@ -1,14 +1,14 @@
 -- A formal sum and the same one with its coefficients reduced.
-use Rattle.std.proofs.Common.{◌≡◌, ◌<◌, ◌≤◌, ℕ, Bool, true, false, cond, List, [], ◌∷◌, length, Option, Some, None, Result, Ok, Err, ℤ, pos, refl, sym, ◌∙◌, ap, subst}
+use Rattle.std.proofs.Common.{◌≡◌, ℕ, Bool, true, false, cond, List, [], ◌∷◌, length, Option, Some, None, Ok, Err, refl, sym, ◌∙◌, ap}
 use Rattle.std.specs.Prelude.{◌+ℤ◌, MatchOption}
 use Rattle.sdmp_laws.specs.Order.{Order, alike}
-use Rattle.sdmp_laws.specs.Poly.{Term, total, Same, Over, terms}
+use Rattle.sdmp_laws.specs.Poly.{Term, total, Over, terms}
 use Rattle.sdmp_laws.specs.Ring.{red}
 use Rattle.sdmp_laws.proofs.Ints.{red_add, red_red}
 use Rattle.sdmp_laws.proofs.PolyLemmas.{from_total}
 use Rattle.sdmp_laws.proofs.TermsLemmas.{terms_equal}
 use Rattle.text_laws.specs.Automaton.{fault_place}
-use Rattle.text_laws.specs.Denotes.{IsSyntaxFault, IsDenoted}
+use Rattle.text_laws.specs.Denotes.{IsSyntaxFault}
 use Rattle.text_laws.specs.Grammar.{Tree, Spells, IsText}
 use Rattle.text_laws.specs.Reading.{denotes, summed, reading}
 use Rattle.text_laws.specs.Summands.{summands, written_terms, verdict}

@@ -1,5 +1,5 @@
 -- The loop over the terms of a text.
-use Rattle.std.proofs.Common.{◌≡◌, ◌<◌, ◌≤◌, ◌+◌, ℕ, ℤ, zero, suc, Bool, true, false, min, cond, ltb, eqb, List, [], ◌∷◌, ◌++◌, length, map, drop, get_or, Option, Some, None, Result, Ok, Err, refl, sym, ◌∙◌, ap, subst, append_assoc, append-nil, length-drop, length-append, arith}
+use Rattle.std.proofs.Common.{◌≡◌, ◌<◌, ◌≤◌, ◌+◌, ℕ, ℤ, zero, suc, Bool, true, false, min, cond, ltb, eqb, List, [], ◌∷◌, ◌++◌, length, drop, get_or, Option, Some, None, Ok, Err, refl, sym, ◌∙◌, ap, subst, append_assoc, append-nil, length-drop, length-append, arith}
 use Rattle.std.specs.Prelude.{MatchOption, is_some, is_none, not}
 use Rattle.std.proofs.lemmas.List.{drop_more, drop_all, map-append}
 use Rattle.std.proofs.lemmas.Bool.Decides.{nat_tests}
@@ -8,16 +8,15 @@ use Rattle.sdmp_laws.specs.Poly.{Term}
 use Rattle.sdmp_laws.specs.Ring.{red}
 use Rattle.canonical_terms.specs.View.{sum_of}
 use Rattle.canonical_terms.specs.declared.term.TermOf.{TermOf}
-use Rattle.text_laws.specs.Grammar.{Mark, Factor, Head, Numeral, Symbol, Product, Signed, Tree, IsHead, IsProduct, AreSigned, IsFirstSign, spell_mark, spell_head, spell_factors, spell_product, spell_signed, spell_sign, Spells, EndsTerm}
-use Rattle.text_laws.specs.Summands.{Summand, unknown_in, unknown, product_at, signed_at, summands, is_minus, written_degree, above_degree, size_of, sum_above, one_above, above_coefficient, or_else, vector_of, signed, written_term, written_terms, refused, verdict}
+use Rattle.text_laws.specs.Grammar.{Mark, Factor, Head, Numeral, Symbol, Product, Signed, Tree, IsHead, IsProduct, AreSigned, IsFirstSign, spell_mark, spell_head, spell_factors, spell_product, spell_signed, spell_sign, Spells}
+use Rattle.text_laws.specs.Summands.{Summand, unknown, product_at, signed_at, summands, is_minus, written_degree, above_degree, size_of, sum_above, one_above, above_coefficient, or_else, vector_of, signed, written_term, written_terms, refused, verdict}
 use Rattle.text_laws.specs.Reading.{is_blank, is_sign}
 use Rattle.text_laws.specs.declared.ByteClass.{ByteClass}
 use Rattle.text_laws.specs.declared.ByteClass.TheVariants.{Digit, Letter}
 use Rattle.text_laws.specs.declared.TextFault.TheVariants as faults
 use Rattle.text_laws.proofs.Fronts.{Stop, blanks_are}
-use Rattle.text_laws.proofs.TreeTokens.{signed_here}
 use Rattle.poly_text.specs.Tokens.{after, sign_front, cap}
-use Rattle.poly_text.specs.ReadsTerms.{weight, minus_front, IsTermRead, ReadsTerm, pushed, reduced, ReadsTree}
+use Rattle.poly_text.specs.ReadsTerms.{weight, minus_front, ReadsTerm, pushed, reduced}
 use Rattle.poly_text.specs.declared.factors.UnknownName.{UnknownName}
 use Rattle.poly_text.specs.declared.terms.TermRead.{TermRead}
 use Rattle.poly_text.proofs.TokenFronts.{after_front}

@@ -1,5 +1,5 @@
 -- The exponents that were added up are those of the term, and their sum is its degree, as far as the cap.
-use Rattle.std.proofs.Common.{◌≡◌, ◌≤◌, ◌<◌, ◌+◌, ℕ, zero, suc, Bool, true, false, min, cond, List, [], ◌∷◌, length, Option, Some, None, refl, sym, ◌∙◌, ap, arith}
+use Rattle.std.proofs.Common.{◌≡◌, ◌≤◌, ◌+◌, ℕ, zero, suc, Bool, true, false, min, cond, List, [], ◌∷◌, length, Some, None, refl, sym, ◌∙◌, ap, arith}
 use Rattle.sdmp_laws.specs.Order.{degree, zeros}
 use Rattle.text_laws.specs.Canonical.{AreNames}
 use Rattle.text_laws.specs.Summands.{Written, same_name, is_known, unknown_in, written_degree, exponent_at, vector_of}

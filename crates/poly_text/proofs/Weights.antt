@@ -1,5 +1,5 @@
 -- Coefficients of a term, and what is held against their bound.
-use Rattle.std.proofs.Common.{◌≡◌, ◌<◌, ◌≤◌, ℕ, Bool, true, false, cond, eqb, ℤ, pos, refl, sym, ◌∙◌, ap, arith}
+use Rattle.std.proofs.Common.{◌≡◌, ◌<◌, ◌≤◌, ℕ, Bool, true, false, cond, eqb, ℤ, pos, sym, ◌∙◌, ap, arith}
 use Rattle.std.specs.Prelude.{neg_ℤ}
 use Rattle.sdmp_laws.specs.Limits.{greatest_norm}
 use Rattle.sdmp_laws.specs.Ring.{red}

@@ -1,10 +1,7 @@
 -- What the reader's steps give, against the trees that stand there.
-use Rattle.std.specs.Prelude.{◌≡◌, ◌≤◌, ◌<◌, ℕ, ◌+◌, ◌∷◌, true, false, min, eqb, if◌then◌else◌, List, drop, MatchOption, Option, Some, None, Result, Ok, Err, ℤ}
-use Rattle.sdmp_laws.specs.Ring.{red}
-use Rattle.sdmp_laws.specs.Limits.{greatest_norm}
-use Rattle.sdmp_laws.specs.Poly.{Term}
+use Rattle.std.specs.Prelude.{◌≡◌, ℕ, ◌∷◌, true, false, min, List, drop, Some, None, Result, Ok, Err}
 use Rattle.text_laws.specs.Grammar.{Power, Factor, Product}
-use Rattle.text_laws.specs.Summands.{Summand, is_known, exponent_of, unknown_in, factors_at, written_degree, size_of, vector_of, signed, product_at}
+use Rattle.text_laws.specs.Summands.{is_known, exponent_of, unknown_in, factors_at, size_of, product_at}
 use Rattle.poly_text.specs.Tokens.{cap}
 use Rattle.poly_text.specs.Exponents.{top, added, all_added}
 use Rattle.poly_text.specs.declared.factors.UnknownName.{UnknownName}

@@ -3,7 +3,6 @@ use Rattle.std.specs.Prelude.{◌≡◌, ◌≤◌, ◌<◌, ◌+◌, ℕ, Bool,
 use Rattle.sdmp_laws.specs.Limits.{greatest_norm}
 use Rattle.sdmp_laws.specs.Poly.{Term}
 use Rattle.sdmp_laws.specs.Ring.{red}
-use Rattle.canonical_terms.specs.View.{sum_of}
 use Rattle.canonical_terms.specs.declared.term.TermOf.{TermOf}
 use Rattle.text_laws.specs.Bytes.{class_of}
 use Rattle.text_laws.specs.Grammar.{Tree}

@@ -10,59 +10,36 @@ use text_laws::{ByteClass, State};
 fn next_state(state: State, class: ByteClass) -> State
     ensures { result ≡ next state class }
 {
-    match state {
-        State::Start => match class {
-            ByteClass::Blank => State::Start,
-            ByteClass::Sign => State::Term,
-            ByteClass::Digit => State::Number,
-            ByteClass::Letter => State::Name,
+    match class {
+        ByteClass::Blank => match state {
+            State::Number => State::NumberEnd,
+            State::Name => State::NameEnd,
+            _ => state,
+        },
+        ByteClass::Digit => match state {
+            State::Start | State::Term | State::Number | State::Exponent => State::Number,
+            State::Name => State::Name,
             _ => State::Dead,
         },
-        State::Term => match class {
-            ByteClass::Blank => State::Term,
-            ByteClass::Digit => State::Number,
-            ByteClass::Letter => State::Name,
+        ByteClass::Letter => match state {
+            State::Start | State::Term | State::Power | State::Name => State::Name,
             _ => State::Dead,
         },
-        State::Number => match class {
-            ByteClass::Digit => State::Number,
-            ByteClass::Blank => State::NumberEnd,
-            ByteClass::Star => State::Power,
-            ByteClass::Sign => State::Term,
+        ByteClass::Sign => match state {
+            State::Start | State::Number | State::NumberEnd | State::Name | State::NameEnd => {
+                State::Term
+            }
             _ => State::Dead,
         },
-        State::NumberEnd => match class {
-            ByteClass::Blank => State::NumberEnd,
-            ByteClass::Star => State::Power,
-            ByteClass::Sign => State::Term,
+        ByteClass::Star => match state {
+            State::Number | State::NumberEnd | State::Name | State::NameEnd => State::Power,
             _ => State::Dead,
         },
-        State::Power => match class {
-            ByteClass::Blank => State::Power,
-            ByteClass::Letter => State::Name,
+        ByteClass::Caret => match state {
+            State::Name | State::NameEnd => State::Exponent,
             _ => State::Dead,
         },
-        State::Name => match class {
-            ByteClass::Letter | ByteClass::Digit => State::Name,
-            ByteClass::Blank => State::NameEnd,
-            ByteClass::Caret => State::Exponent,
-            ByteClass::Star => State::Power,
-            ByteClass::Sign => State::Term,
-            _ => State::Dead,
-        },
-        State::NameEnd => match class {
-            ByteClass::Blank => State::NameEnd,
-            ByteClass::Caret => State::Exponent,
-            ByteClass::Star => State::Power,
-            ByteClass::Sign => State::Term,
-            _ => State::Dead,
-        },
-        State::Exponent => match class {
-            ByteClass::Blank => State::Exponent,
-            ByteClass::Digit => State::Number,
-            _ => State::Dead,
-        },
-        State::Dead => State::Dead,
+        ByteClass::Other => State::Dead,
     }
 }
 

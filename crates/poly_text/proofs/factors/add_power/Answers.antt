@@ -1,6 +1,5 @@
-use Rattle.std.proofs.Common.{◌≡◌, ◌<◌, ◌≤◌, ◌+◌, [], length, min, set, get_or, sym, ap, ◌∙◌, arith}
+use Rattle.std.proofs.Common.{◌≡◌, ◌<◌, [], length, set, get_or, sym, ap, ◌∙◌, arith}
 use Rattle.text_laws.specs.Summands.{same_name}
-use Rattle.poly_text.specs.Exponents.{top}
 use Rattle.poly_text.proofs.Adding.{known_later, added_later, known_here, added_here, known_none, added_none}
 use Rattle.poly_text.proofs.factors.add_power.Goals as goal
 

@@ -1,5 +1,5 @@
 use Rattle.text_laws.proofs.Faults.{not_dead}
-use Rattle.poly_text.proofs.FaultPlace.{lives_on, dies, ends}
+use Rattle.poly_text.proofs.FaultPlace.{lives_on, dies}
 use Rattle.poly_text.proofs.syntax.syntax_fault.Goals as goal
 
 pub returns-in-Dead : goal.returns-in-Dead

@@ -1,4 +1,4 @@
-use Rattle.std.proofs.Common.{◌≡◌, ◌≤◌, ◌<◌, ◌+◌, length, cond, [], Some, None, All, ap, sym, subst, ◌∙◌, refl, arith}
+use Rattle.std.proofs.Common.{◌≤◌, ◌<◌, length, cond, [], Some, None, ap, sym, subst, ◌∙◌, arith}
 use Rattle.std.proofs.lemmas.Result.{err_from_is_err_and}
 use Rattle.std.proofs.lemmas.List.Elements.{All-nil, All-same}
 use Rattle.sdmp_laws.specs.Order.{degree}
@@ -6,7 +6,6 @@ use Rattle.canonical_terms.specs.View.{sum_of}
 use Rattle.text_laws.specs.Grammar.{spell_signed}
 use Rattle.text_laws.specs.Summands.{summands, or_else}
 use Rattle.text_laws.proofs.TreeTokens.{signed_here}
-use Rattle.poly_text.specs.ReadsTerms.{ReadsTree}
 use Rattle.poly_text.proofs.Pushing.{monos_pushed, coefs_pushed}
 use Rattle.poly_text.proofs.TermLoop.{TermsLeft, begins, unknown_at, none_is, step, next_signed, ended, fault_unknown, fault_degree, fault_coefficient, no_fault}
 use Rattle.poly_text.proofs.terms.read_terms.Goals as goal
