@@ -1,0 +1,9 @@
+pub mod LineLemmas
+pub mod EffectiveLemmas
+pub mod DemoLemmas
+pub mod HeaderLemmas
+pub mod DefinitionLemmas
+pub mod CommandLemmas
+pub mod Places
+pub mod SessionLemmas
+mod Examples

@@ -1,0 +1,10 @@
+pub mod Lines
+pub mod Answers
+pub mod Faults
+pub mod Header
+pub mod Body
+pub mod Product
+pub mod Session
+pub mod View
+pub mod Says
+pub mod Demo

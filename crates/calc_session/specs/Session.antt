@@ -1,0 +1,135 @@
+-- What a session answers.
+use Rattle.std.specs.Prelude.{◌+◌, ℕ, List, [], ◌∷◌, ◌++◌, length, drop, if◌then◌else◌, Option, Some, None, Result, Ok, Err}
+use Rattle.std.specs.Str.{bytes_eq}
+use Rattle.sdmp_laws.specs.Order.{Order, Grlex}
+use Rattle.sdmp_laws.specs.Poly.{Term}
+use Rattle.packed_monomial.specs.Packing.{limit_of}
+use Rattle.text_laws.specs.Reading.{reading}
+use Rattle.text_laws.specs.Canonical.{text}
+use Rattle.text_laws.specs.declared.TextFault.{TextFault}
+use Rattle.text_laws.specs.declared.TextFault.TheVariants as text_fault
+use Rattle.poly_text.specs.Words.{words_of}
+use Rattle.calc_session.specs.Lines.{lines, effective}
+use Rattle.calc_session.specs.Header.{vars_of, ring_of, characteristic_of}
+use Rattle.calc_session.specs.Body.{Form, Skip, Define, Show, Mul, Div, Rem, form_of}
+use Rattle.calc_session.specs.Product.{product}
+use Rattle.calc_session.specs.Faults.{fault_line}
+use Rattle.calc_session.specs.Answers.{Answers, before, done, refused}
+use Rattle.calc_session.specs.declared.fault.LineFault.{LineFault}
+use Rattle.calc_session.specs.declared.fault.LineFault.TheVariants.{VarsExpected, RingExpected, UnknownName, Syntax, UnknownNameAt, DegreeBoundAt, CoefficientBoundAt, NotBuilt, NoMemory}
+
+-- the order of the monomials, the variables, the greatest degree of a monomial, and the modulus, 0 for the integers
+pub record Setting : Type 0 where
+  pub order : Order
+  pub variables : List (List ℕ)
+  pub limit : ℕ
+  pub modulus : ℕ
+
+-- the terms of the latest polynomial of each name that has one
+abbrev pub Defined : Type 0
+Defined = List ℕ → Option (List Term)
+
+abbrev pub undefined : Defined
+undefined name = None
+
+abbrev pub define : List ℕ → List Term → Defined → Defined
+define name f defined other = if bytes_eq name other then Some f else defined other
+
+infixl 10 ◌>>=◌
+abbrev pub ◌>>=◌ : {A B : Type 0} → Result A LineFault → (A → Result B LineFault) → Result B LineFault
+Ok a >>= f = f a
+Err e >>= f = Err e
+
+abbrev pub known : Option (List Term) → Result (List Term) LineFault
+known (Some f) = Ok f
+known None = Err UnknownName
+
+-- the fault of a text that begins at this place of the line; columns count from the line's first byte, from 1
+abbrev pub at_column : ℕ → TextFault → LineFault
+at_column start (text_fault.Syntax at) = Syntax (start + at + 1)
+at_column start (text_fault.UnknownName at) = UnknownNameAt (start + at + 1)
+at_column start (text_fault.DegreeBound at) = DegreeBoundAt (start + at + 1)
+at_column start (text_fault.CoefficientBound at) = CoefficientBoundAt (start + at + 1)
+at_column start text_fault.NoMemory = NoMemory
+
+abbrev pub in_line : ℕ → Result (List Term) TextFault → Result (List Term) LineFault
+in_line start (Ok f) = Ok f
+in_line start (Err fault) = Err (at_column start fault)
+
+-- the polynomial of the text that begins at this place of the line
+unfoldable pub reading_at : Setting → ℕ → List ℕ → Result (List Term) LineFault
+reading_at setting start line = in_line start (reading setting.order setting.variables setting.modulus setting.limit (drop start line))
+
+-- the text of a polynomial and a line feed
+unfoldable pub text_line : Setting → List Term → List ℕ
+text_line setting f = text setting.variables f ++ 10 ∷ []
+
+unfoldable pub product_in : Setting → List Term → List Term → Result (List Term) LineFault
+product_in setting f g = product setting.order setting.limit setting.modulus f g
+
+-- what a line writes
+abbrev pub answer_of : Setting → Defined → Form → Result (List ℕ) LineFault
+answer_of setting defined (Show a) = do
+  f ← known (defined a)
+  Ok (text_line setting f)
+answer_of setting defined (Mul a b) = do
+  f ← known (defined a)
+  g ← known (defined b)
+  h ← product_in setting f g
+  Ok (text_line setting h)
+answer_of setting defined (Div a b) = do
+  f ← known (defined a)
+  g ← known (defined b)
+  Err NotBuilt
+answer_of setting defined (Rem a b) = do
+  f ← known (defined a)
+  g ← known (defined b)
+  Err NotBuilt
+answer_of setting defined _ = Ok []
+
+-- what a line makes of the definitions, and what it writes
+abbrev pub line_answer : Setting → Defined → List ℕ → Form → Result (Defined × List ℕ) LineFault
+line_answer setting defined line (Define name start) = do
+  f ← reading_at setting start line
+  Ok (define name f defined, [])
+line_answer setting defined line form = do
+  piece ← answer_of setting defined form
+  Ok (defined, piece)
+
+-- the same of the line as it stands
+unfoldable pub answer_to : Setting → Defined → List ℕ → Result (Defined × List ℕ) LineFault
+answer_to setting defined line = form_of setting.variables line >>= line_answer setting defined line
+
+-- the answers to the lines of the body from this number on
+unfoldable pub body_answers : Setting → Defined → ℕ → List (List ℕ) → Answers
+body_answers setting defined number [] = done
+body_answers setting defined number (line ∷ later) =
+    elim (answer_to setting defined line) [
+      | Ok answer ↦ before answer.1 (body_answers setting answer.0 (number + 1) later)
+      | Err fault ↦ refused (fault_line number fault)
+    ]
+
+abbrev pub setting_of : List (List ℕ) → ℕ → Setting
+setting_of variables modulus = record { order = Grlex; variables = variables; limit = limit_of (length variables); modulus = modulus }
+
+-- from the line with the ring on, which has this number
+unfoldable pub ring_answers : List (List ℕ) → ℕ × List (List ℕ) → Answers
+ring_answers variables (number, []) = refused (fault_line number RingExpected)
+ring_answers variables (number, line ∷ later) =
+    elim (ring_of (words_of line)) [
+      | Ok ring ↦ body_answers (setting_of variables (characteristic_of ring)) undefined (number + 1) later
+      | Err fault ↦ refused (fault_line number fault)
+    ]
+
+-- from the line with the variables on, which has this number
+unfoldable pub vars_answers : ℕ × List (List ℕ) → Answers
+vars_answers (number, []) = refused (fault_line number VarsExpected)
+vars_answers (number, line ∷ later) =
+    elim (vars_of (words_of line)) [
+      | Ok variables ↦ ring_answers variables (effective (number + 1) later)
+      | Err fault ↦ refused (fault_line number fault)
+    ]
+
+-- what a session answers to these bytes
+unfoldable pub answers : List ℕ → Answers
+answers bytes = vars_answers (effective 1 (lines bytes))
