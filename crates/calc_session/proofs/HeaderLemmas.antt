@@ -1,15 +1,18 @@
 -- Lemmas on the line with the ring.
-use Rattle.std.proofs.Common.{◌≡◌, ◌+◌, ◌*◌, ◌-◌, ◌<◌, ◌≤◌, ℕ, Bool, true, false, ◌&&◌, cond, List, [], ◌∷◌, ◌++◌, length, take, drop, get_or, fold, nat_le, Result, Ok, Err, refl, sym, ap, subst, ◌∙◌, arith}
+use Rattle.std.proofs.Common.{◌≡◌, ◌⊎◌, inl, inr, ◌+◌, ◌*◌, ◌-◌, ◌<◌, ◌≤◌, ℕ, Bool, true, false, ◌&&◌, cond, List, [], ◌∷◌, ◌++◌, length, take, drop, get_or, fold, nat_le, Result, Ok, Err, refl, sym, ap, subst, ◌∙◌, arith}
 use Rattle.std.proofs.lemmas.List.{take-append-drop}
 use Rattle.std.proofs.lemmas.List.Sums.{fold-append}
 use Rattle.std.proofs.lemmas.List.Folds.{list_all_at}
 use Rattle.std.specs.List.{list_all}
+use Rattle.std.proofs.lemmas.Bool.Decides.{leb_tells}
+use Rattle.std.specs.Prelude.{codes}
+use Rattle.std.specs.Str.{bytes_eq}
 use Rattle.poly_text.specs.Names.{is_digit}
-use Rattle.calc_session.specs.Header.{number_of, modulus_of}
+use Rattle.calc_session.specs.Header.{number_of, modulus_of, ring_by, ring_of, IsChoice}
 use Rattle.calc_session.specs.declared.fault.LineFault.{LineFault}
-use Rattle.calc_session.specs.declared.fault.LineFault.TheVariants.{BadModulus}
+use Rattle.calc_session.specs.declared.fault.LineFault.TheVariants.{BadModulus, RingExpected}
 use Rattle.calc_session.specs.declared.ring.RingChoice.{RingChoice}
-use Rattle.calc_session.specs.declared.ring.RingChoice.TheVariants.{Modulus}
+use Rattle.calc_session.specs.declared.ring.RingChoice.TheVariants.{Integers, Modulus}
 
 abbrev pub with_digit : ℕ → ℕ → ℕ
 with_digit n byte = n * 10 + (byte - 48)
@@ -60,3 +63,51 @@ unfolding modulus_of
 modulus_bad word i d below bad =
     sym (ap (λ (b : Bool). choice b (number_of word)) (and_first (list_all is_digit word) (nat_le 2 (number_of word) && nat_le (number_of word) 18446744073709551615)
     (list_all_at is_digit word i d below bad)))
+
+-- ---- a modulus is at least 2
+
+middle : (a b c : Bool) → (a && (b && c)) ≡ true → b ≡ true
+middle true true c h = refl
+middle true false c h = h
+middle false b c h = absurd cc
+
+at_least : (n : ℕ) → nat_le 2 n ≡ true → 2 ≤ n
+at_least n h = elim (leb_tells 2 n) [
+  | inl yes ↦ yes.1
+  | inr no ↦ absurd cc
+]
+
+modulus_choice : (word : List ℕ) (choice : RingChoice) → modulus_of word ≡ Ok choice → IsChoice choice
+unfolding modulus_of
+modulus_choice word choice e = pick _ refl e
+  where
+    pick : (b : Bool) → (list_all is_digit word && (nat_le 2 (number_of word) && nat_le (number_of word) 18446744073709551615)) ≡ b
+        → cond b (Ok (Modulus (number_of word))) (Err BadModulus) ≡ Ok choice → IsChoice choice
+    pick true t h =
+        let same : Modulus (number_of word) ≡ choice = cc in
+        subst IsChoice same (at_least (number_of word) (middle (list_all is_digit word) _ _ t))
+    pick false t h = absurd cc
+
+by_choice : (words : List (List ℕ)) (choice : RingChoice) → ring_by words ≡ Ok choice → IsChoice choice
+by_choice [] choice e = absurd cc
+by_choice (word ∷ []) choice e = pick (bytes_eq word (codes "Z")) e
+  where
+    pick : (b : Bool) → cond b (Ok Integers) (Err RingExpected) ≡ Ok choice → IsChoice choice
+    pick true h =
+        let same : Integers ≡ choice = cc in
+        subst IsChoice same tt
+    pick false h = absurd cc
+by_choice (word ∷ modulus ∷ []) choice e = pick (bytes_eq word (codes "mod")) e
+  where
+    pick : (b : Bool) → cond b (modulus_of modulus) (Err RingExpected) ≡ Ok choice → IsChoice choice
+    pick true h = modulus_choice modulus choice h
+    pick false h = absurd cc
+by_choice (word ∷ modulus ∷ more ∷ words) choice e = absurd cc
+
+pub ring_choice : (words : List (List ℕ)) (choice : RingChoice) → ring_of words ≡ Ok choice → IsChoice choice
+ring_choice [] choice e = absurd cc
+ring_choice (first ∷ words) choice e = pick (bytes_eq first (codes "ring")) e
+  where
+    pick : (b : Bool) → cond b (ring_by words) (Err RingExpected) ≡ Ok choice → IsChoice choice
+    pick true h = by_choice words choice h
+    pick false h = absurd cc

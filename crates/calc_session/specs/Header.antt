@@ -1,5 +1,5 @@
 -- The header lines, by their words.
-use Rattle.std.specs.Prelude.{◌==◌, ◌||◌, ◌&&◌, ◌+◌, ◌*◌, ◌-◌, ℕ, Bool, true, false, not, List, [], ◌∷◌, ◌++◌, length, nat_le, codes, fold, if◌then◌else◌, Result, Ok, Err}
+use Rattle.std.specs.Prelude.{◌==◌, ◌≤◌, ◌||◌, ◌&&◌, ◌+◌, ◌*◌, ◌-◌, ℕ, Bool, true, false, not, List, [], ◌∷◌, ◌++◌, length, nat_le, codes, fold, if◌then◌else◌, Result, Ok, Err}
 use Rattle.std.specs.List.{list_all}
 use Rattle.std.specs.Str.{bytes_eq}
 use Rattle.poly_text.specs.Names.{is_digit, names_of}
@@ -49,3 +49,8 @@ ring_of (first ∷ words) = if bytes_eq first (codes "ring") then ring_by words 
 abbrev pub characteristic_of : RingChoice → ℕ
 characteristic_of Integers = 0
 characteristic_of (Modulus p) = p
+
+-- a modulus is at least 2
+abbrev pub IsChoice : RingChoice → Type 0
+IsChoice Integers = Unit {0}
+IsChoice (Modulus p) = 2 ≤ p

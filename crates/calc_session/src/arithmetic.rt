@@ -8,10 +8,10 @@ use coeff_ring::CoeffRing;
 use packed_monomial::Monomial;
 use std::alloc::Global;
 
-/// The operations that a session asks for.
-pub trait Arithmetic {
+/// The operations that a session asks for, on its polynomials.
+pub trait Arithmetic<R: CoeffRing, M: Monomial> {
     /// The product of two polynomials of one modulus. It is refused exactly where it would pass a bound, or for want of memory.
-    fn product<R: CoeffRing, M: Monomial>(
+    fn product(
         &self,
         alloc: Global,
         f: &Poly<R, M>,

@@ -17,7 +17,7 @@ use std::alloc::Global;
 use text_laws::TextFault;
 
 /// Does what the line says: it writes into `out`, which is empty, or defines a name.
-pub(crate) fn answer_line<R: CoeffRing, M: Monomial, A: Arithmetic>(
+pub(crate) fn answer_line<R: CoeffRing, M: Monomial, A: Arithmetic<R, M>>(
     alloc: Global,
     arithmetic: &A,
     ring: R,
@@ -132,7 +132,7 @@ fn show<R: CoeffRing, M: Monomial>(
 }
 
 // writes the text of the product
-fn multiply<R: CoeffRing, M: Monomial, A: Arithmetic>(
+fn multiply<R: CoeffRing, M: Monomial, A: Arithmetic<R, M>>(
     alloc: Global,
     arithmetic: &A,
     ring: R,

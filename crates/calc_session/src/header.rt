@@ -1,7 +1,7 @@
 //! The lines before the body.
 ghost use Rattle.std.specs.Prelude.{◌≡◌, ◌≢◌, ◌+◌, ◌≤◌, length, IfOk, IfErr};
 ghost use Rattle.calc_session.specs.Lines.{lines};
-ghost use Rattle.calc_session.specs.Header.{characteristic_of};
+ghost use Rattle.calc_session.specs.Header.{IsChoice, characteristic_of};
 ghost use Rattle.calc_session.specs.Faults.{fault_line};
 ghost use Rattle.calc_session.specs.Answers.{refused};
 ghost use Rattle.calc_session.specs.Session.{answers, body_answers, setting_of, undefined};
@@ -30,12 +30,13 @@ pub struct HeaderFault {
     pub fault: LineFault,
 }
 
-#[tactic(auto, using(crate::proofs::SessionLemmas::header_none, crate::proofs::SessionLemmas::header_vars, crate::proofs::SessionLemmas::header_half, crate::proofs::SessionLemmas::header_ring, crate::proofs::SessionLemmas::header_whole))]
 /// Reads the variables and the ring of a session, of which `bytes` is the whole input.
+#[tactic(auto, using(crate::proofs::SessionLemmas::header_none, crate::proofs::SessionLemmas::header_vars, crate::proofs::SessionLemmas::header_half, crate::proofs::SessionLemmas::header_ring, crate::proofs::SessionLemmas::header_whole, crate::proofs::HeaderLemmas::ring_choice))]
 pub fn parse_header(alloc: Global, bytes: &[u8]) -> Result<Header<'_>, HeaderFault>
     ensures header { IfOk
         result
         (λ h. answers bytes.now ≡ body_answers (setting_of h.names (characteristic_of h.ring)) undefined h.line (lines h.body.now)) }
+    ensures ring { IfOk result (λ h. IsChoice h.ring) }
     ensures within { IfOk result (λ h. h.line + length h.body.now ≤ 1 + length bytes.now) }
     ensures refused { IfErr result (λ e. e.fault ≢ LineFault.NoMemory → answers bytes.now ≡ refused (fault_line e.line e.fault)) }
 {

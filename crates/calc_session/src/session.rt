@@ -64,7 +64,7 @@ impl<R: CoeffRing, M: Monomial> BodySession<R, M> {
     }
 
     /// Answers the line of this number into `out`, which is empty: with what the line writes, or with its fault line where the session ends here. After NoMemory `out` is empty, and the session is good for nothing more.
-    pub fn answer<A: Arithmetic>(
+    pub fn answer<A: Arithmetic<R, M>>(
         &mut self,
         alloc: Global,
         arithmetic: &A,

@@ -8,8 +8,8 @@ use std::test::Fail;
 /// Multiplies nothing.
 struct Idle;
 
-impl Arithmetic for Idle {
-    fn product<R: CoeffRing, M: Monomial>(
+impl<R: CoeffRing, M: Monomial> Arithmetic<R, M> for Idle {
+    fn product(
         &self,
         _alloc: Global,
         f: &Poly<R, M>,
