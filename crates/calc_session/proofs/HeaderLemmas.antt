@@ -73,8 +73,8 @@ middle false b c h = absurd cc
 
 at_least : (n : ℕ) → nat_le 2 n ≡ true → 2 ≤ n
 at_least n h = elim (leb_tells 2 n) [
-  | inl yes ↦ yes.1
-  | inr no ↦ absurd cc
+  | inl at ↦ at.1
+  | inr below ↦ absurd cc
 ]
 
 modulus_choice : (word : List ℕ) (choice : RingChoice) → modulus_of word ≡ Ok choice → IsChoice choice

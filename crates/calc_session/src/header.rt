@@ -31,7 +31,7 @@ pub struct HeaderFault {
 }
 
 /// Reads the variables and the ring of a session, of which `bytes` is the whole input.
-#[tactic(auto, using(crate::proofs::SessionLemmas::header_none, crate::proofs::SessionLemmas::header_vars, crate::proofs::SessionLemmas::header_half, crate::proofs::SessionLemmas::header_ring, crate::proofs::SessionLemmas::header_whole, crate::proofs::HeaderLemmas::ring_choice))]
+#[tactic(auto, using(crate::proofs::SessionLemmas::header_none, crate::proofs::SessionLemmas::header_vars, crate::proofs::SessionLemmas::header_half, crate::proofs::SessionLemmas::header_ring, crate::proofs::SessionLemmas::header_whole))]
 pub fn parse_header(alloc: Global, bytes: &[u8]) -> Result<Header<'_>, HeaderFault>
     ensures header { IfOk
         result

@@ -1,6 +1,8 @@
-use Rattle.std.proofs.Common.{rules, ◌≡◌, ◌+◌, ◌∷◌, ℕ, List}
+use Rattle.std.proofs.Common.{rules, ◌≡◌, ◌+◌, ◌∷◌, ℕ, List, sym, ◌∙◌}
+use Rattle.poly_text.specs.Words.{words_of}
 use Rattle.calc_session.specs.Lines.{lines, effective}
 use Rattle.calc_session.proofs.SessionLemmas.{header_vars, header_ring}
+use Rattle.calc_session.proofs.HeaderLemmas.{ring_choice}
 use Rattle.calc_session.proofs.header.parse_header.Goals as goal
 
 pub returns-in-Err-clause-refused : goal.returns-in-Err-clause-refused
@@ -17,3 +19,6 @@ returns-in-Err-parse_ring-clause-refused c = λ other.
     header_ring c.args.bytes.now c.effective_line-first.result.number c.effective_line-second.result.number c.in-Some.line.now c.in-Some-line.line.now
     (lines c.effective_line-first.result.rest.now) (lines c.effective_line-second.result.rest.now) c.in-Ok.names c.in-Err-parse_ring.fault first c.in-Ok.ensures.names second
     c.in-Err-parse_ring.ensures
+
+pub returns-in-Ok-parse_ring-clause-ring : goal.returns-in-Ok-parse_ring-clause-ring
+returns-in-Ok-parse_ring-clause-ring c = ring_choice (words_of c.in-Some-line.line.now) c.in-Ok-parse_ring.ring (sym c.parse_ring.ensures ∙ c.in-Ok-parse_ring.is)
