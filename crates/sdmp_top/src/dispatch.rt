@@ -1,0 +1,108 @@
+//! One session for each number of variables and each ring.
+ghost use Rattle.std.specs.Prelude.{◌≡◌, ◌≢◌, ◌+◌, ◌≤◌, Err, IfOk, IsErrOf, length};
+ghost use Rattle.sdmp_laws.specs.Order.{Grlex};
+ghost use Rattle.packed_monomial.specs.Packing.{limit_of};
+ghost use Rattle.calc_session.specs.Lines.{lines};
+ghost use Rattle.calc_session.specs.Header.{IsChoice, characteristic_of};
+ghost use Rattle.calc_session.specs.Faults.{fault_line};
+ghost use Rattle.calc_session.specs.Answers.{Answers, refused, text};
+ghost use Rattle.calc_session.specs.Session.{answers, body_answers, setting_of, undefined};
+ghost use Rattle.sdmp_top.specs.Outside.{Appends, AppendsPart, Rose};
+ghost use Rattle.sdmp_top.specs.Written.{AppendsPieces, IsAnswering};
+
+use crate::answering::answer_lines;
+use crate::outside::Sink;
+use crate::product::PairProducts;
+use crate::stop::Stop;
+use crate::writing::write_all;
+use calc_session::{
+    Arithmetic, BodySession, Ending, Header, HeaderFault, LineFault, RingChoice, parse_header,
+    write_fault,
+};
+use coeff_residue::Residues;
+use coeff_ring::{CoeffRing, Integers};
+use packed_monomial::{Monomial, Packed};
+use std::alloc::Global;
+
+/// Answers the lines of the input. Each line's answer is made whole and then written.
+pub fn answer_input<K: Sink>(alloc: Global, input: &[u8], sink: &mut K) -> Result<Ending, Stop>
+    ensures ending { IfOk result (λ ending. (answers input.now).ending ≡ ending) }
+    ensures text { IfOk result (λ _. Appends (K.held sink.old) (K.held sink.new) (text (answers input.now))) }
+    ensures write_fault { IsErrOf result Stop.WriteFault → AppendsPart (K.held sink.old) (K.held sink.new) (text (answers input.now)) }
+    ensures no_memory { IsErrOf result Stop.NoMemory → AppendsPieces (K.held sink.old) (K.held sink.new) (answers input.now).pieces }
+    ensures later { K.faults sink.old ≤ K.faults sink.new }
+    ensures rose { IsErrOf result Stop.WriteFault → Rose (K.faults sink.old) (K.faults sink.new) (K.at_last sink.new) }
+    ensures steady { result ≢ Err Stop.WriteFault → K.faults sink.new ≡ K.faults sink.old }
+{
+    match parse_header(alloc, input) {
+        Ok(header) => answer_body(alloc, header, sink),
+        Err(HeaderFault { line, fault }) => refuse(alloc, line, fault, sink),
+    }
+}
+
+// Ends the session with a fault line.
+fn refuse<K: Sink>(alloc: Global, line: u64, fault: LineFault, sink: &mut K) -> Result<Ending, Stop>
+    ensures { (told : Answers) → (fault ≢ LineFault.NoMemory → told ≡ refused (fault_line line fault))
+        → IsAnswering told (K.held sink.old) (K.held sink.new) (K.faults sink.old) (K.faults sink.new) (K.at_last sink.new) result }
+{
+    if let LineFault::NoMemory = fault {
+        return Err(Stop::NoMemory);
+    }
+    let mut out = Vec::new(alloc);
+    if write_fault(alloc, line, &fault, &mut out).is_err() {
+        return Err(Stop::NoMemory);
+    }
+    if write_all(sink, &out).is_err() {
+        return Err(Stop::WriteFault);
+    }
+    Ok(Ending::Refused)
+}
+
+macro_rules! by_variables {
+    ($alloc:expr, $header:expr, $sink:expr; $($n:literal),*) => {
+        match $header.names.len() {
+            $($n => match $header.ring {
+                RingChoice::Integers => answer_in::<Integers, Packed<$n>, PairProducts, K>($alloc, Integers, &PairProducts, $header, $sink),
+                RingChoice::Modulus(p) => match Residues::new(p) {
+                    Some(ring) => answer_in::<Residues, Packed<$n>, PairProducts, K>($alloc, ring, &PairProducts, $header, $sink),
+                    None => unreachable!(),
+                },
+            },)*
+            _ => unreachable!(),
+        }
+    };
+}
+
+// Chooses the ring and the monomials.
+fn answer_body<K: Sink>(alloc: Global, header: Header<'_>, sink: &mut K) -> Result<Ending, Stop>
+    requires ring { IsChoice header.ring }
+    requires numbers { header.line + length header.body.now ≤ u64.MAX }
+    ensures { IsAnswering (body_answers (setting_of header.entry.names (characteristic_of header.entry.ring)) undefined header.entry.line (lines header.entry.body.now)) (K.held sink.old) (K.held sink.new) (K.faults sink.old) (K.faults sink.new) (K.at_last sink.new) result }
+{
+    by_variables!(alloc, header, sink; 1, 2, 3, 4, 5, 6, 7)
+}
+
+fn answer_in<R: CoeffRing, M: Monomial, A: Arithmetic<R, M>, K: Sink>(
+    alloc: Global,
+    ring: R,
+    arithmetic: &A,
+    header: Header<'_>,
+    sink: &mut K,
+) -> Result<Ending, Stop>
+    requires ring { R.characteristic ring ≡ characteristic_of header.ring }
+    requires order { M.order ≡ Grlex }
+    requires vars { M.VARS ≡ length header.names }
+    requires limit { M.LIM ≡ limit_of (length header.names) }
+    requires numbers { header.line + length header.body.now ≤ u64.MAX }
+    ensures { IsAnswering (body_answers (setting_of header.entry.names (characteristic_of header.entry.ring)) undefined header.entry.line (lines header.entry.body.now)) (K.held sink.old) (K.held sink.new) (K.faults sink.old) (K.faults sink.new) (K.at_last sink.new) result }
+{
+    let mut session = BodySession::<R, M>::new(alloc, ring, header.names);
+    answer_lines(
+        alloc,
+        arithmetic,
+        &mut session,
+        header.line,
+        header.body,
+        sink,
+    )
+}

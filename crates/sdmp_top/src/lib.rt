@@ -1,0 +1,25 @@
+//! The top of the program: where the bytes come from and go to, and the run.
+#![tactic(auto)]
+
+mod answering;
+mod demo;
+mod dispatch;
+mod intake;
+mod memory;
+mod outside;
+mod product;
+mod real;
+mod shell;
+mod status;
+mod steady;
+mod stop;
+#[cfg(test)]
+mod tests;
+mod writing;
+
+pub use memory::{MemorySink, MemorySource};
+pub use outside::{Failed, Sink, Source};
+pub use real::{RealSink, RealSource};
+pub use shell::run;
+pub use status::Status;
+pub use steady::{CountSink, SteadySource};

@@ -1,0 +1,181 @@
+use crate::{CountSink, MemorySink, MemorySource, Status, SteadySource, run};
+use std::alloc::Global;
+use std::test::Fail;
+
+// The status of a session, and what it writes. The source fails at the call `failing_read`, and the sink at the call `failing_write`, where it takes 3 bytes a write.
+fn answer(
+    alloc: Global,
+    session: &[u8],
+    words: &str,
+    failing_read: Option<u64>,
+    failing_write: Option<u64>,
+) -> Result<(Vec<u8>, Status), Fail> {
+    let mut list = Vec::new(alloc);
+    for word in words.split_whitespace() {
+        list.push(String::from_str(alloc, word)?)?;
+    }
+    let mut reads = Vec::new(alloc);
+    if let Some(call) = failing_read {
+        reads.push(call)?;
+    }
+    let mut writes = Vec::new(alloc);
+    let mut chunk = 4096;
+    if let Some(call) = failing_write {
+        writes.push(call)?;
+        chunk = 3;
+    }
+    let mut source = MemorySource::new(session.to_vec(alloc)?, 8, reads);
+    let mut sink = MemorySink::new(alloc, 100, chunk, writes)?;
+    let status = run(alloc, &list, &mut source, &mut sink);
+    Ok((sink.bytes().to_vec(alloc)?, status))
+}
+
+const FIRST: &str = "vars x\nring Z\na = x+1\nb = x-1\nmul a b\n";
+
+#[test]
+fn answers_sessions(rt: HostRuntime) -> Result<(), Fail> {
+    let rows = [
+        (FIRST, "x^2-1\n", Status::Done),
+        (
+            "vars x\nring Z\na = 0\nb = x-1\nmul a b\n",
+            "0\n",
+            Status::Done,
+        ),
+        (
+            "vars x y\nring Z\na = x+y\nb = x-y\nmul a b\n",
+            "x^2-y^2\n",
+            Status::Done,
+        ),
+        (
+            "vars x\nring mod 6\na = 2*x\nb = 3*x\nmul a b\n",
+            "0\n",
+            Status::Done,
+        ),
+        (
+            "vars x\nring mod 7\na = x+6\nb = x+1\nmul a b\n",
+            "x^2+6\n",
+            Status::Done,
+        ),
+        (
+            "vars x y\nring Z\na = y + x+y\nshow a\n",
+            "x+2*y\n",
+            Status::Done,
+        ),
+        (
+            "vars x y z t u v w\nring Z\na = x^64\nb = x^63\nmul a b\n",
+            "x^127\n",
+            Status::Done,
+        ),
+        (
+            "vars x y z t u v w\nring Z\na = x^64\nb = x^64\nmul a b\n",
+            "line 5: degree bound\n",
+            Status::Refused,
+        ),
+        (
+            "vars x\nring Z\na = 170141183460469231731687303715884105727\nb = -1\nmul a b\n",
+            "-170141183460469231731687303715884105727\n",
+            Status::Done,
+        ),
+        (
+            "vars x\nring Z\na = 170141183460469231731687303715884105727\nb = 2\nmul a b\n",
+            "line 5: coefficient bound\n",
+            Status::Refused,
+        ),
+        (
+            "vars x\nring Z\na = 1+x\nb = 85070591730234615865843651857942052864\nmul a b\n",
+            "line 5: coefficient bound\n",
+            Status::Refused,
+        ),
+        ("", "line 1: vars expected\n", Status::Refused),
+        (
+            "vars x\nring Z\na = x+1\nb = x-1\nmul a c\n",
+            "line 5: unknown name\n",
+            Status::Refused,
+        ),
+        ("vars x", "line 2: ring expected\n", Status::Refused),
+        (
+            "vars x\nring Z\na = 2x\n",
+            "line 3: syntax at 6\n",
+            Status::Refused,
+        ),
+        (
+            "vars x\nring Z\na = x+w\n",
+            "line 3: unknown name at 7\n",
+            Status::Refused,
+        ),
+        (
+            "vars x\nring Z\na = x^2147483648\n",
+            "line 3: degree bound at 5\n",
+            Status::Refused,
+        ),
+        (
+            "vars x\nring Z\na = 170141183460469231731687303715884105728\n",
+            "line 3: coefficient bound at 5\n",
+            Status::Refused,
+        ),
+        (
+            "vars x\r\nring Z\r\n\r\na = x+1\r\nb = x-1\r\n# test\r\nmul a b\r\n",
+            "x^2-1\n",
+            Status::Done,
+        ),
+        (
+            "vars x\nring Z\na = x\na = x+1\nshow a\nshow b\n",
+            "x+1\nline 6: unknown name\n",
+            Status::Refused,
+        ),
+        (
+            "vars x\nring mod 18446744073709551616\n",
+            "line 2: bad modulus\n",
+            Status::Refused,
+        ),
+    ];
+    for (session, text, status) in rows {
+        let (written, ended) = answer(rt.alloc(), session.as_bytes(), "", None, None)?;
+        assert_eq!(rt; written.as_slice(), text.as_bytes(), "{session}");
+        assert_eq!(rt; ended, status, "{session}");
+    }
+    Ok(())
+}
+
+#[test]
+fn stops_at_faults(rt: HostRuntime) -> Result<(), Fail> {
+    let rows = [
+        ("", Some(1), None, "", Status::ReadFault),
+        ("", None, Some(1), "x^2", Status::WriteFault),
+        ("--workers 0", None, None, "", Status::BadWords),
+        (
+            "--workers 64 --places 2",
+            None,
+            None,
+            "x^2-1\n",
+            Status::Done,
+        ),
+    ];
+    for (words, failing_read, failing_write, text, status) in rows {
+        let (written, ended) = answer(
+            rt.alloc(),
+            FIRST.as_bytes(),
+            words,
+            failing_read,
+            failing_write,
+        )?;
+        assert_eq!(rt; written.as_slice(), text.as_bytes(), "{words}");
+        assert_eq!(rt; ended, status, "{words}");
+    }
+    Ok(())
+}
+
+#[test]
+fn refuses_a_long_input(rt: HostRuntime) -> Result<(), Fail> {
+    let mut source = SteadySource::new(vec![in rt.alloc(); b'\n'; 67_108_865]?);
+    let mut sink = CountSink::new();
+    assert_eq!(rt;
+        run(rt.alloc(), &[], &mut source, &mut sink),
+        Status::TooLong
+    );
+    assert_eq!(rt; sink.count(), 0);
+    let mut source = SteadySource::new(FIRST.as_bytes().to_vec(rt.alloc())?);
+    assert_eq!(rt; run(rt.alloc(), &[], &mut source, &mut sink), Status::Done);
+    assert_eq!(rt; sink.count(), 6);
+    Ok(())
+}
