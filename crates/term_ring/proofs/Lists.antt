@@ -1,0 +1,76 @@
+-- Lists and places.
+use Rattle.std.proofs.Common.{◌≡◌, ◌≢◌, ◌⊎◌, ℕ, zero, suc, ◌+◌, ◌*◌, ◌%◌, ◌<◌, ◌≤◌, List, [], ◌∷◌, ◌++◌, length, get_or, sym, refl, ap, ◌∙◌, ⊎_elim, inl, inr, arith, length-append, append_assoc, append-nil}
+use mathlib.Core.List.{IsPrefix}
+use mathlib.Core.Option.{some, some-injective, some-ne-none}
+use lib.ListN.{get_elem?}
+use Rattle.term_ring.specs.Rule.{Comparable, place}
+
+module _ {A : Type 0} where
+  pub prefix_self : (xs : List A) → IsPrefix xs xs
+  prefix_self xs = ([], append-nil xs)
+
+  pub prefix_trans : (xs ys zs : List A) → IsPrefix xs ys → IsPrefix ys zs → IsPrefix xs zs
+  prefix_trans xs ys zs p q = (p.0 ++ q.0, sym (append_assoc xs p.0 q.0) ∙ (ap (λ l. l ++ q.0) p.1 ∙ q.1))
+
+  pub prefix_more : (xs ys : List A) → IsPrefix xs (xs ++ ys)
+  prefix_more xs ys = (ys, refl)
+
+  pub prefix_length : (xs ys : List A) → IsPrefix xs ys → length xs ≤ length ys
+  prefix_length xs ys p = let e : length ys ≡ length xs + length p.0 = ap length (sym p.1) ∙ length-append xs p.0 in omega arith
+
+  -- two beginnings of one list are comparable
+  pub both_begin : (xs ys zs : List A) → IsPrefix xs zs → IsPrefix ys zs → Comparable xs ys
+  both_begin [] ys zs p q = inl (ys, refl)
+  both_begin (x ∷ xs) [] zs p q = inr (x ∷ xs, refl)
+  both_begin (x ∷ xs) (y ∷ ys) [] p q = absurd (cc p.1)
+  both_begin (x ∷ xs) (y ∷ ys) (z ∷ zs) p q =
+      let e : xs ++ p.0 ≡ zs = cc p.1 in let f : ys ++ q.0 ≡ zs = cc q.1 in let g : x ≡ y = cc (p.1, q.1) in
+      ⊎_elim (λ (t : IsPrefix xs ys). inl (t.0, λ i. g i ∷ t.1 i)) (λ (t : IsPrefix ys xs). inr (t.0, λ i. sym g i ∷ t.1 i)) (both_begin xs ys zs (p.0, e) (q.0, f))
+
+  -- the place of the last one is known
+  pub at_snoc : (l : List A) (a b : A) (j : ℕ) → get_elem? (l ++ a ∷ []) j ≡ some b → (get_elem? l j ≡ some b) ⊎ ((j ≡ length l) × (a ≡ b))
+  at_snoc [] a b zero e = inr (refl, some-injective a b e)
+  at_snoc [] a b (suc j) e = absurd (some-ne-none b (sym e))
+  at_snoc (x ∷ xs) a b zero e = inl e
+  at_snoc (x ∷ xs) a b (suc j) e = ⊎_elim (λ t. inl t) (λ t. inr (ap suc t.0, t.1)) (at_snoc xs a b j e)
+
+  pub first_of_longer : (l : List A) (a b : A) → 0 < length l → get_elem? (l ++ a ∷ []) 0 ≡ some b → get_elem? l 0 ≡ some b
+  first_of_longer [] a b h e = absurd (omega arith)
+  first_of_longer (x ∷ xs) a b h e = e
+
+  pub within : (l : List A) (j : ℕ) (a : A) → get_elem? l j ≡ some a → j < length l
+  within [] j a e = absurd (some-ne-none a (sym e))
+  within (x ∷ xs) zero a e = omega arith
+  within (x ∷ xs) (suc j) a e = let h = within xs j a e in omega arith
+
+  -- a list with something in it
+  pub first_there : (l : List A) → 0 < length l → (a : A) × (rest : List A) × (l ≡ a ∷ rest)
+  first_there [] h = absurd (omega arith)
+  first_there (x ∷ xs) h = (x, xs, refl)
+
+pub index_snoc_before : (l : List ℕ) (r k : ℕ) → k < length l → get_or (l ++ r ∷ []) k 0 ≡ get_or l k 0
+index_snoc_before [] r k h = absurd (omega arith)
+index_snoc_before (x ∷ xs) r zero h = refl
+index_snoc_before (x ∷ xs) r (suc k) h = index_snoc_before xs r k (omega arith)
+
+pub index_snoc_last : (l : List ℕ) (r k : ℕ) → k ≡ length l → get_or (l ++ r ∷ []) k 0 ≡ r
+index_snoc_last [] r zero h = refl
+index_snoc_last [] r (suc k) h = absurd (omega arith)
+index_snoc_last (x ∷ xs) r zero h = absurd (omega arith)
+index_snoc_last (x ∷ xs) r (suc k) h = index_snoc_last xs r k (omega arith)
+
+-- two lists of one length with the same elements
+pub same_list : (xs ys : List ℕ) → length xs ≡ length ys → ((k : ℕ) → k < length xs → get_or xs k 0 ≡ get_or ys k 0) → xs ≡ ys
+same_list [] [] e h = refl
+same_list [] (y ∷ ys) e h = absurd (omega arith)
+same_list (x ∷ xs) [] e h = absurd (omega arith)
+same_list (x ∷ xs) (y ∷ ys) e h = let a : x ≡ y = h 0 (omega arith) in let b = same_list xs ys (omega arith) (λ k l. h (suc k) (omega arith)) in λ i. a i ∷ b i
+
+pub apart : (places x y j k : ℕ) → x % places ≢ y % places → j < 5 → k < 5 → place places x j ≢ place places y k
+apart places x y j k ne a b e = let m : ℕ = x % places in let n : ℕ = y % places in let e' : 2 + 5 * m + j ≡ 2 + 5 * n + k = e in let ne' : m ≢ n = ne in ne' (omega arith)
+
+pub place_below : (places x k : ℕ) → 0 < places → k < 5 → place places x k < 2 + 5 * places
+place_below places x k a b = let m : ℕ = x % places in let h : m < places = omega arith in omega arith
+
+pub place_above : (places x k : ℕ) → 2 ≤ place places x k
+place_above places x k = let m : ℕ = x % places in let h : 2 ≤ 2 + 5 * m + k = omega arith in h
