@@ -1,0 +1,134 @@
+-- Sessions and their answers by the rules.
+use Rattle.std.proofs.Common.{◌≡◌, ℕ, List, [], ◌∷◌, codes, get_or, None, pos, inl, refl, sym, ◌∙◌, ap, arith}
+use Rattle.std.specs.Fmt.{digits}
+use Rattle.sdmp_laws.specs.Order.{degree, ◌⋅◌, alike, is_below, tie_below, lex_below}
+use Rattle.sdmp_laws.specs.Poly.{Term, Over, AllBelow, Decreasing, Proper, norm, term_times, row, times, is_zero, keep, term_plus, put, terms}
+use Rattle.text_laws.specs.Bytes.{class_of}
+use Rattle.text_laws.specs.Grammar.{Tree, Symbol, IsTree}
+use Rattle.text_laws.specs.Reading.{denotes}
+use Rattle.poly_text.specs.Words.{words_of}
+use Rattle.poly_text.specs.Names.{word_fault, fault_behind}
+use Rattle.calc_session.specs.Answers.{Answers, text, done, refused}
+use Rattle.calc_session.specs.Lines.{cut_lines, without_return, effective}
+use Rattle.calc_session.specs.Faults.{fault_words, fault_column}
+use Rattle.calc_session.specs.Header.{modulus_of}
+use Rattle.calc_session.specs.Body.{Define, Show, definition, command}
+use Rattle.calc_session.specs.Product.{product}
+use Rattle.calc_session.specs.Session.{Setting, setting_of, Defined, undefined, define, answers, vars_answers, ring_answers, body_answers, answer_to, reading_at, text_line, product_in}
+use Rattle.calc_session.specs.declared.answers.Ending.TheVariants.{Done}
+use Rattle.calc_session.specs.declared.ring.RingChoice.TheVariants.{Integers}
+use Rattle.session_laws.specs.Answered.{IsSum, IsRead, IsAnswered}
+use Rattle.session_laws.proofs.Answering.{answers_are_answered}
+
+-- the answers of a session without a fault
+abbrev all : List (List ℕ) → Answers
+all pieces = record { pieces = pieces; ending = Done }
+
+by_law : (bytes : List ℕ) (A : Answers) → answers bytes ≡ A → IsAnswered bytes A
+by_law bytes A e = (answers_are_answered bytes A).1 e
+
+-- (x + 1)*(x - 1) = x^2 - 1
+abbrev difference : List ℕ
+difference = codes "vars x\nring Z\na = x+1\nb = x-1\nmul a b\n"
+
+difference_is : answers difference ≡ all (codes "x^2-1\n" ∷ [])
+unfolding answers digits cut_lines without_return words_of word_fault fault_behind effective vars_answers ring_answers definition command answer_to body_answers reading_at denotes class_of text_line product_in product times row term_times ◌⋅◌ norm terms put keep is_zero term_plus alike is_below tie_below lex_below degree
+difference_is = refl
+
+difference_answered : IsAnswered difference (all (codes "x^2-1\n" ∷ []))
+difference_answered = by_law difference (all (codes "x^2-1\n" ∷ [])) difference_is
+
+-- (x + 1)^2 = x^2 + 1 modulo 2
+abbrev square : List ℕ
+square = codes "vars x\nring mod 2\na = x+1\nmul a a\nshow a\n"
+
+square_is : answers square ≡ all (codes "x^2+1\n" ∷ codes "x+1\n" ∷ [])
+unfolding answers digits cut_lines without_return words_of word_fault fault_behind effective vars_answers ring_answers modulus_of definition command answer_to body_answers reading_at denotes class_of text_line product_in product times row term_times ◌⋅◌ norm terms put keep is_zero term_plus alike is_below tie_below lex_below degree
+square_is = refl
+
+square_answered : IsAnswered square (all (codes "x^2+1\n" ∷ codes "x+1\n" ∷ []))
+square_answered = by_law square (all (codes "x^2+1\n" ∷ codes "x+1\n" ∷ [])) square_is
+
+-- no number stands behind a star: the fault of the third line ends the session
+abbrev faulty : List ℕ
+faulty = codes "vars x\nring Z\na = x*2\nshow a\n"
+
+faulty_is : answers faulty ≡ refused (codes "line 3: syntax at 7\n")
+unfolding answers digits fault_words fault_column cut_lines without_return words_of word_fault fault_behind effective vars_answers ring_answers definition command answer_to body_answers reading_at denotes class_of
+faulty_is = refl
+
+faulty_answered : IsAnswered faulty (refused (codes "line 3: syntax at 7\n"))
+faulty_answered = by_law faulty (refused (codes "line 3: syntax at 7\n")) faulty_is
+
+-- the rules give nothing else
+fourth_byte : Answers → ℕ
+fourth_byte A = get_or (text A) 3 0
+
+other_sign : IsAnswered difference (all (codes "x^2+1\n" ∷ [])) → ⊥
+unfolding fourth_byte
+other_sign h =
+    let e : ◌≡◌ {A = ℕ} 45 43 = ap fourth_byte (sym difference_is ∙ (answers_are_answered difference (all (codes "x^2+1\n" ∷ []))).0 h) in
+    absurd (omega (arith, e))
+
+-- ---- a session by the rules alone
+shown : List ℕ
+shown = codes "vars x\nring Z\na = x\nshow a\n"
+
+-- the text behind the =, by the grammar
+abbrev variable : Tree
+variable = record {
+  blanks = codes " ";
+  sign = None;
+  first = record { head = Symbol (record { name = record { first = 120; more = []; blanks = [] }; raised = None }); factors = [] };
+  others = [];
+}
+
+variable_formed : IsTree variable
+unfolding class_of
+variable_formed = record {
+  blanks = (refl, tt);
+  sign = tt;
+  first = record { head = record { name = record { first = refl; more = tt; blanks = tt }; raised = tt }; factors = tt };
+  others = tt;
+}
+
+-- x
+abbrev x : List Term
+x = record { monomial = 1 ∷ []; coefficient = pos 1 } ∷ []
+
+abbrev setting : Setting
+setting = setting_of (codes "x" ∷ []) 0
+
+one_term : IsSum setting x x
+unfolding Over Decreasing AllBelow Proper
+one_term = record {
+  canonical = record { vectors = (refl, tt); decreasing = (tt, tt); proper = (refl, (λ e. absurd cc), tt) };
+  same = record { at = λ m. refl };
+}
+
+variable_read : IsRead setting (codes " x") x
+variable_read = record { written = x; denoted = (variable, record { formed = variable_formed; spelled = refl }, refl); sum = one_term }
+
+abbrev now : Defined
+now = define (codes "a") x undefined
+
+-- `a = x` defines a, and `show a` writes x
+shown_answered : IsAnswered shown (all (codes "x\n" ∷ []))
+unfolding shown cut_lines without_return words_of word_fault fault_behind effective definition command text_line digits degree
+shown_answered =
+    inl (
+      codes "x" ∷ [],
+      refl,
+      inl (
+        Integers,
+        refl,
+        inl (
+          now,
+          [],
+          all (codes "x\n" ∷ []),
+          (Define (codes "a") 3, refl, (record { f = x; read = variable_read; held = refl }, refl)),
+          inl (now, codes "x\n", done, (Show (codes "a"), refl, (refl, record { f = x; known = refl; written = refl })), refl, refl),
+          refl,
+        ),
+      ),
+    )

@@ -1,0 +1,4 @@
+pub mod Polynomials
+pub mod Lines
+pub mod Answering
+mod Examples
