@@ -35,104 +35,131 @@ const FIRST: &str = "vars x\nring Z\na = x+1\nb = x-1\nmul a b\n";
 #[test]
 fn answers_sessions(rt: HostRuntime) -> Result<(), Fail> {
     let rows = [
-        (FIRST, "x^2-1\n", Status::Done),
-        (
-            "vars x\nring Z\na = 0\nb = x-1\nmul a b\n",
-            "0\n",
-            Status::Done,
-        ),
-        (
-            "vars x y\nring Z\na = x+y\nb = x-y\nmul a b\n",
-            "x^2-y^2\n",
-            Status::Done,
-        ),
-        (
-            "vars x\nring mod 6\na = 2*x\nb = 3*x\nmul a b\n",
-            "0\n",
-            Status::Done,
-        ),
-        (
-            "vars x\nring mod 7\na = x+6\nb = x+1\nmul a b\n",
-            "x^2+6\n",
-            Status::Done,
-        ),
-        (
-            "vars x y\nring Z\na = y + x+y\nshow a\n",
-            "x+2*y\n",
-            Status::Done,
-        ),
+        (FIRST, "x^2-1\n"),
+        ("vars x\nring Z\na = 0\nb = x-1\nmul a b\n", "0\n"),
+        ("vars x y\nring Z\na = x+y\nb = x-y\nmul a b\n", "x^2-y^2\n"),
+        ("vars x\nring mod 6\na = 2*x\nb = 3*x\nmul a b\n", "0\n"),
+        ("vars x\nring mod 7\na = x+6\nb = x+1\nmul a b\n", "x^2+6\n"),
+        ("vars x y\nring Z\na = y + x+y\nshow a\n", "x+2*y\n"),
         (
             "vars x y z t u v w\nring Z\na = x^64\nb = x^63\nmul a b\n",
             "x^127\n",
-            Status::Done,
-        ),
-        (
-            "vars x y z t u v w\nring Z\na = x^64\nb = x^64\nmul a b\n",
-            "line 5: degree bound\n",
-            Status::Refused,
         ),
         (
             "vars x\nring Z\na = 170141183460469231731687303715884105727\nb = -1\nmul a b\n",
             "-170141183460469231731687303715884105727\n",
-            Status::Done,
-        ),
-        (
-            "vars x\nring Z\na = 170141183460469231731687303715884105727\nb = 2\nmul a b\n",
-            "line 5: coefficient bound\n",
-            Status::Refused,
-        ),
-        (
-            "vars x\nring Z\na = 1+x\nb = 85070591730234615865843651857942052864\nmul a b\n",
-            "line 5: coefficient bound\n",
-            Status::Refused,
-        ),
-        ("", "line 1: vars expected\n", Status::Refused),
-        (
-            "vars x\nring Z\na = x+1\nb = x-1\nmul a c\n",
-            "line 5: unknown name\n",
-            Status::Refused,
-        ),
-        ("vars x", "line 2: ring expected\n", Status::Refused),
-        (
-            "vars x\nring Z\na = 2x\n",
-            "line 3: syntax at 6\n",
-            Status::Refused,
-        ),
-        (
-            "vars x\nring Z\na = x+w\n",
-            "line 3: unknown name at 7\n",
-            Status::Refused,
-        ),
-        (
-            "vars x\nring Z\na = x^2147483648\n",
-            "line 3: degree bound at 5\n",
-            Status::Refused,
-        ),
-        (
-            "vars x\nring Z\na = 170141183460469231731687303715884105728\n",
-            "line 3: coefficient bound at 5\n",
-            Status::Refused,
         ),
         (
             "vars x\r\nring Z\r\n\r\na = x+1\r\nb = x-1\r\n# test\r\nmul a b\r\n",
             "x^2-1\n",
-            Status::Done,
+        ),
+    ];
+    for (session, text) in rows {
+        let (written, ended) = answer(rt.alloc(), session.as_bytes(), "", None, None)?;
+        assert_eq!(rt; written.as_slice(), text.as_bytes(), "{session}");
+        assert_eq!(rt; ended, Status::Done, "{session}");
+    }
+    Ok(())
+}
+
+#[test]
+fn refuses_lines(rt: HostRuntime) -> Result<(), Fail> {
+    let rows = [
+        ("", "line 1: vars expected\n"),
+        ("vars x", "line 2: ring expected\n"),
+        ("vars x\nring Z\na = 2x\n", "line 3: syntax at 6\n"),
+        ("vars x\nring Z\na = x+w\n", "line 3: unknown name at 7\n"),
+        (
+            "vars x\nring Z\na = x^2147483648\n",
+            "line 3: degree bound at 5\n",
         ),
         (
-            "vars x\nring Z\na = x\na = x+1\nshow a\nshow b\n",
-            "x+1\nline 6: unknown name\n",
-            Status::Refused,
+            "vars x\nring Z\na = 170141183460469231731687303715884105728\n",
+            "line 3: coefficient bound at 5\n",
         ),
         (
             "vars x\nring mod 18446744073709551616\n",
             "line 2: bad modulus\n",
-            Status::Refused,
         ),
     ];
-    for (session, text, status) in rows {
+    for (session, text) in rows {
         let (written, ended) = answer(rt.alloc(), session.as_bytes(), "", None, None)?;
         assert_eq!(rt; written.as_slice(), text.as_bytes(), "{session}");
-        assert_eq!(rt; ended, status, "{session}");
+        assert_eq!(rt; ended, Status::Refused, "{session}");
+    }
+    Ok(())
+}
+
+#[test]
+fn refuses_after_lines(rt: HostRuntime) -> Result<(), Fail> {
+    let rows = [
+        (
+            "vars x y z t u v w\nring Z\na = x^64\nb = x^64\nmul a b\n",
+            "line 5: degree bound\n",
+        ),
+        (
+            "vars x\nring Z\na = 170141183460469231731687303715884105727\nb = 2\nmul a b\n",
+            "line 5: coefficient bound\n",
+        ),
+        (
+            "vars x\nring Z\na = 1+x\nb = 85070591730234615865843651857942052864\nmul a b\n",
+            "line 5: coefficient bound\n",
+        ),
+        (
+            "vars x\nring Z\na = x+1\nb = x-1\nmul a c\n",
+            "line 5: unknown name\n",
+        ),
+        (
+            "vars x\nring Z\na = x\na = x+1\nshow a\nshow b\n",
+            "x+1\nline 6: unknown name\n",
+        ),
+    ];
+    for (session, text) in rows {
+        let (written, ended) = answer(rt.alloc(), session.as_bytes(), "", None, None)?;
+        assert_eq!(rt; written.as_slice(), text.as_bytes(), "{session}");
+        assert_eq!(rt; ended, Status::Refused, "{session}");
+    }
+    Ok(())
+}
+
+#[test]
+fn names_the_first_fault(rt: HostRuntime) -> Result<(), Fail> {
+    let rows = [
+        ("vars x\nring Z\na =\n", "line 3: syntax at 4\n"),
+        ("vars x\nring Z\na = x+\n", "line 3: syntax at 7\n"),
+        ("vars x\nring Z\na = x*2\n", "line 3: syntax at 7\n"),
+        ("vars x\nring Z\na = +-x\n", "line 3: syntax at 6\n"),
+        ("vars x\nring Z\na=1\r\r\n", "line 3: syntax at 4\n"),
+        (
+            "vars x\nring Z\na = w + x^2147483648 + \n",
+            "line 3: syntax at 24\n",
+        ),
+        (
+            "vars x\nring Z\na = x^2147483648 + w\n",
+            "line 3: unknown name at 20\n",
+        ),
+        (
+            "vars x\nring Z\na = 0*x^2147483648\n",
+            "line 3: degree bound at 5\n",
+        ),
+        ("vars x\nring Z\nx = 1\n", "line 3: variable name\n"),
+        ("vars x\nring Z\nmul = 1\n", "line 3: reserved name\n"),
+        ("vars x\nring Z\n= 1\n", "line 3: bad name\n"),
+        ("vars x\nring Z\nshow\n", "line 3: argument count\n"),
+        ("vars x\nring Z\nvars y\n", "line 3: unknown command\n"),
+        ("vars x\nring Z\nshow x\n", "line 3: unknown name\n"),
+        ("vars x\nring Z\na = x\nrem a a\n", "line 4: not built\n"),
+        ("vars = 1\n", "line 1: bad name\n"),
+        ("vars a b c d e f g 1\n", "line 1: variable count\n"),
+        ("vars x\nring = Z\n", "line 2: ring expected\n"),
+        ("vars x\nring mod 5 5\n", "line 2: ring expected\n"),
+        ("vars x\nring mod -5\n", "line 2: bad modulus\n"),
+        ("# a=b\n\n#x\n", "line 4: vars expected\n"),
+    ];
+    for (session, text) in rows {
+        let (written, ended) = answer(rt.alloc(), session.as_bytes(), "", None, None)?;
+        assert_eq!(rt; written.as_slice(), text.as_bytes(), "{session}");
+        assert_eq!(rt; ended, Status::Refused, "{session}");
     }
     Ok(())
 }
