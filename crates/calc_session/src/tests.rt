@@ -47,6 +47,8 @@ fn writes_faults(rt: HostRuntime) -> Result<(), Fail> {
 fn answers_lines(rt: HostRuntime) -> Result<(), Fail> {
     let header = parse_header(rt.alloc(), b"# a comment\r\n\nvars x\nring Z\nshow a")?;
     assert_eq!(rt; header.line, 5);
+    assert_eq!(rt; header.names.len(), 1);
+    assert!(rt; !header.body.is_empty());
     let (line, rest) = split_line(header.body);
     assert!(rt; rest.is_empty());
     assert!(rt; matches!(parse_line(line, &header.names), Ok(Line::Show { .. })));
@@ -55,6 +57,25 @@ fn answers_lines(rt: HostRuntime) -> Result<(), Fail> {
     let next = session.answer(rt.alloc(), &Idle, header.line, line, &mut out)?;
     assert_eq!(rt; next, Next::Refused);
     assert_eq!(rt; out.as_slice(), b"line 5: unknown name\n".as_slice());
+    Ok(())
+}
+
+#[test]
+fn shows_what_is_defined(rt: HostRuntime) -> Result<(), Fail> {
+    let header = parse_header(rt.alloc(), b"vars x\nring Z\n")?;
+    assert_eq!(rt; header.names.len(), 1);
+    let mut session = BodySession::<Integers, Packed<1>>::new(rt.alloc(), Integers, header.names);
+    let mut out = Vec::new(rt.alloc());
+    session.answer(rt.alloc(), &Idle, 3, b"a = 7", &mut out)?;
+    out.clear();
+    session.answer(rt.alloc(), &Idle, 4, b"a = x*x - 3 + 2", &mut out)?;
+    out.clear();
+    let next = session.answer(rt.alloc(), &Idle, 5, b"show a", &mut out)?;
+    assert_eq!(rt; next, Next::More);
+    assert_eq!(rt; out.as_slice(), b"x^2-1\n".as_slice());
+    out.clear();
+    session.answer(rt.alloc(), &Idle, 6, b"rem a a", &mut out)?;
+    assert_eq!(rt; out.as_slice(), b"line 6: not built\n".as_slice());
     Ok(())
 }
 
