@@ -1,0 +1,15 @@
+pub mod Falls
+pub mod Unread
+pub mod Stand
+pub mod Tops
+pub mod Sums
+pub mod Every
+pub mod PartLemmas
+pub mod Products
+pub mod Places
+pub mod Moves
+pub mod RowLists
+pub mod Popped
+pub mod ProductSums
+pub mod Keeps
+pub mod ProductTerms

@@ -1,0 +1,182 @@
+-- The products that rows have left to read.
+use Rattle.std.proofs.Common.{◌≡◌, ◌≢◌, ℕ, Bool, true, false, cond, zero, suc, ◌+◌, ◌*◌, ◌<◌, ◌≤◌, List, [], ◌∷◌, ◌++◌, length, set, drop, sum, pos, ◌+ℤ◌, unsigned_abs, refl, sym, ap, ap₂, ◌∙◌, arith, length-append, length-drop}
+use Rattle.std.proofs.lemmas.Int.{ints}
+use Rattle.std.proofs.lemmas.List.{drop_all}
+use Rattle.std.proofs.lemmas.List.Sums.{sum_by-cons}
+use Rattle.std.proofs.Math.Nat.{mul-le-mul_right}
+use Rattle.sdmp_laws.specs.Order.{Order, ◌⋅◌, Below, alike}
+use Rattle.sdmp_laws.specs.Ring.{red, IsReduced}
+use Rattle.sdmp_laws.specs.Poly.{Term, total, coef, Same, term_times, row, times, norm, Over, AllBelow, Decreasing, IsPoly, terms}
+use Rattle.sdmp_laws.proofs.Ints.{red_zero, red_add}
+use Rattle.sdmp_laws.proofs.OrderLemmas.{Three, is_less, is_equal, is_greater, below_total, length_times}
+use Rattle.sdmp_laws.proofs.PolyLemmas.{total_append}
+use Rattle.sdmp_laws.proofs.TermsLemmas.{total_cons, total_one, total_above, AllBelow-up, below_cons, nothing_below, head_facts, coef_head, cons_poly, terms_poly, terms_same, terms_only, terms_equal}
+use Rattle.sdmp_laws.proofs.DivisionLemmas.{AllBelow-append, row_below}
+use Rattle.sdmp_laws.proofs.Parts.{norm_nil, norm_cons, norm_append, norm_times}
+use Rattle.row_merge.specs.Rows.{term_at, reads_of, strided, unread}
+use Rattle.row_merge.proofs.Falls.{norm-strided}
+
+-- ---- one row
+-- the product of row k at column r
+abbrev pub product_at : List Term → List Term → ℕ → ℕ → Term
+product_at A B k r = term_times (term_at A k) (term_at B r)
+
+row_next : (s : Term) (B : List Term) (r : ℕ) → r < length B → row s (drop r B) ≡ term_times s (term_at B r) ∷ row s (drop (suc r) B)
+unfolding row
+row_next s [] r h = absurd (omega arith)
+row_next s (t ∷ B) zero h = refl
+row_next s (t ∷ B) (suc r) h = row_next s B r (omega arith)
+
+length-row : (s : Term) (B : List Term) → length (row s B) ≡ length B
+unfolding row
+length-row s [] = refl
+length-row s (t ∷ B) = ap suc (length-row s B)
+
+over_row : (n : ℕ) (s : Term) (B : List Term) (r : ℕ) → length s.monomial ≡ n → Over n B → Over n (row s (drop r B))
+unfolding Over row term_times
+over_row n s [] zero l o = tt
+over_row n s [] (suc r) l o = tt
+over_row n s (t ∷ B) zero l o = (length_times s.monomial t.monomial (l ∙ sym o.0) ∙ l, over_row n s B zero l o.1)
+over_row n s (t ∷ B) (suc r) l o = over_row n s B r l o.1
+
+below_row : (ord : Order) (n : ℕ) (s : Term) (B : List Term) (r : ℕ) (x : List ℕ) → Over n B → Decreasing ord B → (r < length B → Below ord (s.monomial ⋅ (term_at B r).monomial) x) → AllBelow ord x (row s (drop r B))
+unfolding AllBelow row term_times Over Decreasing
+below_row ord n s [] zero x o d h = tt
+below_row ord n s [] (suc r) x o d h = tt
+below_row ord n s (t ∷ B) zero x o d h =
+    let b : Below ord (s.monomial ⋅ t.monomial) x = h (omega arith) in
+    (b, AllBelow-up ord (s.monomial ⋅ t.monomial) x (row s B) b (row_below ord n s t.monomial B o.0 o.1 d.0))
+below_row ord n s (t ∷ B) (suc r) x o d h = below_row ord n s B r x o.1 d.1 (λ l. h (omega arith))
+
+norm_row_drop : (s : Term) (B : List Term) (r : ℕ) → norm (row s (drop r B)) ≤ norm (row s B)
+unfolding row
+norm_row_drop s [] zero = omega arith
+norm_row_drop s [] (suc r) = omega arith
+norm_row_drop s (t ∷ B) zero = omega arith
+norm_row_drop s (t ∷ B) (suc r) = omega (arith, norm_row_drop s B r, norm_cons (term_times s t) (row s B))
+
+-- ---- all rows
+pub unread_begins : (A : List Term) (reads : List ℕ) (B : List Term) → length reads ≡ length A → ((k : ℕ) → reads_of reads k ≡ 0) → unread A reads B ≡ times A B
+unfolding unread times
+unread_begins [] reads B l z = refl
+unread_begins (s ∷ A) [] B l z = absurd (omega arith)
+unread_begins (s ∷ A) (r ∷ reads) B l z =
+    ap₂ (λ (x y : List Term). x ++ y) (ap (λ k. row s (drop k B)) (z 0)) (unread_begins A reads B (omega arith) (λ k. z (suc k)))
+
+pub unread_ends : (A : List Term) (reads : List ℕ) (B : List Term) → length reads ≡ length A → ((k : ℕ) → k < length A → length B ≤ reads_of reads k) → unread A reads B ≡ []
+unfolding unread row
+unread_ends [] reads B l z = refl
+unread_ends (s ∷ A) [] B l z = refl
+unread_ends (s ∷ A) (r ∷ reads) B l z =
+    ap₂ (λ (x y : List Term). x ++ y) (ap (row s) (drop_all r B (z 0 (omega arith)))) (unread_ends A reads B (omega arith) (λ k h. z (suc k) (omega arith)))
+
+pub unread_total : (A : List Term) (reads : List ℕ) (B : List Term) (k r : ℕ) (m : List ℕ) → length reads ≡ length A → k < length A → reads_of reads k ≡ r → r < length B
+    → total (unread A reads B) m ≡ total (product_at A B k r ∷ []) m +ℤ total (unread A (set reads k (suc r)) B) m
+unfolding unread
+unread_total [] reads B k r m l h e b = absurd (omega arith)
+unread_total (s ∷ A) [] B k r m l h e b = absurd (omega arith)
+unread_total (s ∷ A) (q ∷ reads) B zero r m l h e b =
+    ap (λ (x : List Term). total (x ++ unread A reads B) m) (ap (λ i. row s (drop i B)) e ∙ row_next s B r b)
+    ∙ total_cons (term_times s (term_at B r)) (row s (drop (suc r) B) ++ unread A reads B) m
+unread_total (s ∷ A) (q ∷ reads) B (suc k) r m l h e b =
+    omega (arith, ints, total_append (row s (drop q B)) (unread A reads B) m, total_append (row s (drop q B)) (unread A (set reads k (suc r)) B) m, unread_total A reads B k r m (omega arith) (omega arith) e b)
+
+pub unread_norm : (A : List Term) (reads : List ℕ) (B : List Term) (k r : ℕ) → length reads ≡ length A → k < length A → reads_of reads k ≡ r → r < length B
+    → norm (unread A reads B) ≡ unsigned_abs (product_at A B k r).coefficient + norm (unread A (set reads k (suc r)) B)
+unfolding unread
+unread_norm [] reads B k r l h e b = absurd (omega arith)
+unread_norm (s ∷ A) [] B k r l h e b = absurd (omega arith)
+unread_norm (s ∷ A) (q ∷ reads) B zero r l h e b =
+    ap (λ (x : List Term). norm (x ++ unread A reads B)) (ap (λ i. row s (drop i B)) e ∙ row_next s B r b)
+    ∙ norm_cons (term_times s (term_at B r)) (row s (drop (suc r) B) ++ unread A reads B)
+unread_norm (s ∷ A) (q ∷ reads) B (suc k) r l h e b =
+    omega (arith, norm_append (row s (drop q B)) (unread A reads B), norm_append (row s (drop q B)) (unread A (set reads k (suc r)) B), unread_norm A reads B k r (omega arith) (omega arith) e b)
+
+pub unread_within : (A : List Term) (reads : List ℕ) (B : List Term) → norm (unread A reads B) ≤ norm (times A B)
+unfolding unread times
+unread_within [] reads B = omega arith
+unread_within (s ∷ A) [] B = omega (arith, norm_nil)
+unread_within (s ∷ A) (r ∷ reads) B =
+    omega (arith, norm_append (row s (drop r B)) (unread A reads B), norm_append (row s B) (times A B), norm_row_drop s B r, unread_within A reads B)
+
+pub unread_over : (n : ℕ) (A : List Term) (reads : List ℕ) (B : List Term) → Over n A → Over n B → Over n (unread A reads B)
+unfolding unread Over
+unread_over n [] reads B a b = tt
+unread_over n (s ∷ A) [] B a b = tt
+unread_over n (s ∷ A) (r ∷ reads) B a b = join (row s (drop r B)) (unread A reads B) (over_row n s B r a.0 b) (unread_over n A reads B a.1 b)
+  where
+    join : (X Y : List Term) → Over n X → Over n Y → Over n (X ++ Y)
+    join [] Y x y = y
+    join (t ∷ X) Y x y = (x.0, join X Y x.1 y)
+
+pub unread_below : (ord : Order) (n : ℕ) (A : List Term) (reads : List ℕ) (B : List Term) (x : List ℕ) → Over n B → Decreasing ord B
+    → ((k : ℕ) → k < length A → reads_of reads k < length B → Below ord ((term_at A k).monomial ⋅ (term_at B (reads_of reads k)).monomial) x)
+    → AllBelow ord x (unread A reads B)
+unfolding unread AllBelow
+unread_below ord n [] reads B x o d h = tt
+unread_below ord n (s ∷ A) [] B x o d h = tt
+unread_below ord n (s ∷ A) (r ∷ reads) B x o d h =
+    AllBelow-append ord x (row s (drop r B)) (unread A reads B) (below_row ord n s B r x o d (h 0 (omega arith)))
+    (unread_below ord n A reads B x o d (λ k l q. h (suc k) (omega arith) q))
+
+pub unread_length : (A : List Term) (reads : List ℕ) (B : List Term) → length reads ≡ length A → ((k : ℕ) → reads_of reads k ≤ length B) → sum reads + length (unread A reads B) ≡ length A * length B
+unfolding unread
+unread_length [] [] B l w = omega arith
+unread_length [] (r ∷ reads) B l w = absurd (omega arith)
+unread_length (s ∷ A) [] B l w = absurd (omega arith)
+unread_length (s ∷ A) (r ∷ reads) B l w =
+    omega (arith, sum_by-cons (λ (y : ℕ). y) r reads, length-append (row s (drop r B)) (unread A reads B), length-row s (drop r B), length-drop r B, w 0, unread_length A reads B (omega arith) (λ k. w (suc k)))
+
+pub length-times : (A B : List Term) → length (times A B) ≡ length A * length B
+unfolding times
+length-times [] B = omega arith
+length-times (s ∷ A) B = omega (arith, length-append (row s B) (times A B), length-row s B, length-times A B)
+
+-- ---- the terms of what is left
+terms_below : (ord : Order) (p n : ℕ) (x : List ℕ) (U : List Term) → length x ≡ n → Over n U → AllBelow ord x U → AllBelow ord x (terms ord p U)
+unfolding coef
+terms_below ord p n x U l o b = by (terms ord p U) (terms_poly ord p n U o) (terms_same ord p U)
+  where
+    nothing_at : (m : List ℕ) → Below ord x m → red p (total U m) ≡ pos 0
+    nothing_at m h = ap (red p) (total_above ord m U (AllBelow-up ord x m U h b)) ∙ red_zero p
+
+    by : (L : List Term) → IsPoly ord p n L → Same p L U → AllBelow ord x L
+    by [] i s = nothing_below ord x
+    by (t ∷ L) i s =
+        let f = head_facts ord p n t L i in
+        let c = sym (coef_head ord p t L f.1 f.2) ∙ s.at t.monomial in
+        pick f c (below_total ord t.monomial x (f.0 ∙ sym l))
+      where
+        pick : (length t.monomial ≡ n) × AllBelow ord t.monomial L × IsReduced p t.coefficient × (t.coefficient ≢ pos 0) → t.coefficient ≡ red p (total U t.monomial) → Three (Below ord t.monomial x) (t.monomial ≡ x) (Below ord x t.monomial) → AllBelow ord x (t ∷ L)
+        pick f c (is_less h) = below_cons ord x t L h f.1
+        pick f c (is_equal e) = absurd (f.3 (c ∙ ap (λ (m : List ℕ). red p (total U m)) e ∙ ap (red p) (total_above ord x U b) ∙ red_zero p))
+        pick f c (is_greater h) = absurd (f.3 (c ∙ nothing_at t.monomial h))
+
+-- t is the sum of what stands above U: the terms begin with t, unless it is zero
+pub terms_next : (ord : Order) (p n : ℕ) (t : Term) (F U : List Term) → Over n F → Over n U → length t.monomial ≡ n → IsReduced p t.coefficient → AllBelow ord t.monomial U → Same p F (t ∷ U) → (t.coefficient ≢ pos 0) → terms ord p F ≡ t ∷ terms ord p U
+unfolding coef
+terms_next ord p n t F U o u l r b s z =
+    sym (terms_only ord p n (t ∷ terms ord p U) F o (record {
+      canonical = cons_poly ord p n t (terms ord p U) l (terms_below ord p n t.monomial U l u b) r z (terms_poly ord p n U u);
+      same = record { at = λ m. more m ∙ sym (s.at m) };
+    }))
+  where
+    more : (m : List ℕ) → red p (total (t ∷ terms ord p U) m) ≡ red p (total (t ∷ U) m)
+    more m =
+        ap (red p) (total_cons t (terms ord p U) m)
+        ∙ red_add p (total (t ∷ []) m) (total (t ∷ []) m) (total (terms ord p U) m) (total U m) refl ((terms_same ord p U).at m)
+        ∙ ap (red p) (sym (total_cons t U m))
+
+pub terms_skip : (ord : Order) (p n : ℕ) (t : Term) (F U : List Term) → Over n F → Over n U → Same p F (t ∷ U) → t.coefficient ≡ pos 0 → terms ord p F ≡ terms ord p U
+unfolding coef
+terms_skip ord p n t F U o u s z =
+    terms_equal ord p n F U o u (record { at = λ m. s.at m ∙ ap (red p) (total_cons t U m ∙ omega (arith, ints, total_one t m ∙ none (alike t.monomial m))) })
+  where
+    none : (b : Bool) → cond b t.coefficient (pos 0) ≡ pos 0
+    none true = z
+    none false = refl
+
+-- no list of products of rows is above a bound on the product of the norms
+pub all_within : (T : List Term) (first stride n : ℕ) (reads : List ℕ) (B : List Term) (h : ℕ) → 0 < stride → norm T * norm B ≤ h → norm (unread (strided T first stride n) reads B) ≤ h
+all_within T first stride n reads B h l b =
+    omega (arith, b, unread_within (strided T first stride n) reads B, norm_times (strided T first stride n) B, mul-le-mul_right (norm B) (norm-strided T first stride n l))

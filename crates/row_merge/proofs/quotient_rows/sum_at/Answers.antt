@@ -1,0 +1,131 @@
+use Rattle.std.proofs.Common.{◌≡◌, ◌+◌, ◌<◌, ℕ, ℤ, ◌*ℤ◌, List, ◌∷◌, length, get_or, set, None, unsigned_abs, sym, ap, ◌∙◌, subst, arith}
+use Rattle.std.specs.List.Sorted.{IsPermutation}
+use Rattle.std.proofs.lemmas.List.Elements.{All-get_or}
+use Rattle.sdmp_laws.specs.Ring.{red}
+use Rattle.canonical_terms.specs.View.{term_of, sum_of}
+use Rattle.row_merge.specs.Learned.{left_to_read, AreRows}
+use Rattle.row_merge.proofs.RowLists.{over_sum, long_sum}
+use Rattle.row_merge.proofs.Places.{untaken_rows, left_below, all_below}
+use Rattle.row_merge.proofs.ProductSums.{Summing, sum_begins, sum_more, sum_size, product_size, fewer_left, sum_ends, taken_row, taken_product, taken_split, taken_mono, coefs_of}
+use Rattle.row_merge.proofs.quotient_rows.sum_at.Goals as goal
+
+pub loop-row-init : goal.loop-row-init
+loop-row-init g c = record {
+  rows = c.requires.taken;
+  summing = subst (λ (z : ℤ). Summing g.M.Monomial.order (g.R.CoeffRing.characteristic c.args.ring) (g.M.Monomial.vector c.args.mono) (left_to_read (sum_of g.M.Monomial.vector g.R.CoeffRing.value c.args.learned.now) c.args.reads.now (sum_of g.M.Monomial.vector g.R.CoeffRing.value c.args.rows.now)) (left_to_read (sum_of g.M.Monomial.vector g.R.CoeffRing.value c.args.learned.now) c.args.reads.now (sum_of g.M.Monomial.vector g.R.CoeffRing.value c.args.rows.now)) z) (sym c.zero-coef.ensures.value) (sum_begins g.M.Monomial.order (g.R.CoeffRing.characteristic c.args.ring) (g.M.Monomial.vector c.args.mono) (left_to_read (sum_of g.M.Monomial.vector g.R.CoeffRing.value c.args.learned.now) c.args.reads.now (sum_of g.M.Monomial.vector g.R.CoeffRing.value c.args.rows.now)));
+  in_ring = c.zero-coef.ensures.belongs;
+}
+
+pub offset_bounds-learned-reads : goal.offset_bounds-learned-reads
+offset_bounds-learned-reads g c =
+    let e = c.in-Some.ensures in
+    let rows = c.loop-row.invariant.rows in
+    let h : c.in-Some.row < length (sum_of g.M.Monomial.vector g.R.CoeffRing.value c.args.rows.now) = omega (arith, e.0, rows.places_count) in
+    let f = taken_row g.M.Monomial.vector g.M.Monomial.order (g.M.Monomial.vector c.args.mono) (sum_of g.M.Monomial.vector g.R.CoeffRing.value c.args.learned.now) (sum_of g.M.Monomial.vector g.R.CoeffRing.value c.args.rows.now) c.loop-row.reads c.loop-row.heap c.in-Some.row rows h e.1 in
+    let hr : c.in-Some.row < length c.args.rows.now = omega (arith, h, long_sum g.M.Monomial.vector g.R.CoeffRing.value c.args.rows.now) in
+    let hl : get_or c.loop-row.reads c.in-Some.row 0 < length c.args.learned.now = omega (arith, f.0, long_sum g.M.Monomial.vector g.R.CoeffRing.value c.args.learned.now) in
+    omega (arith, hl)
+
+pub bounds-learned-reads : goal.bounds-learned-reads
+bounds-learned-reads g c =
+    let e = c.in-Some.ensures in
+    let rows = c.loop-row.invariant.rows in
+    let h : c.in-Some.row < length (sum_of g.M.Monomial.vector g.R.CoeffRing.value c.args.rows.now) = omega (arith, e.0, rows.places_count) in
+    let f = taken_row g.M.Monomial.vector g.M.Monomial.order (g.M.Monomial.vector c.args.mono) (sum_of g.M.Monomial.vector g.R.CoeffRing.value c.args.learned.now) (sum_of g.M.Monomial.vector g.R.CoeffRing.value c.args.rows.now) c.loop-row.reads c.loop-row.heap c.in-Some.row rows h e.1 in
+    let hr : c.in-Some.row < length c.args.rows.now = omega (arith, h, long_sum g.M.Monomial.vector g.R.CoeffRing.value c.args.rows.now) in
+    let hl : get_or c.loop-row.reads c.in-Some.row 0 < length c.args.learned.now = omega (arith, f.0, long_sum g.M.Monomial.vector g.R.CoeffRing.value c.args.learned.now) in
+    hl
+
+pub bounds-learned-reads-in-Some : goal.bounds-learned-reads-in-Some
+bounds-learned-reads-in-Some g c =
+    let e = c.in-Some.ensures in
+    let rows = c.loop-row.invariant.rows in
+    let h : c.in-Some.row < length (sum_of g.M.Monomial.vector g.R.CoeffRing.value c.args.rows.now) = omega (arith, e.0, rows.places_count) in
+    let f = taken_row g.M.Monomial.vector g.M.Monomial.order (g.M.Monomial.vector c.args.mono) (sum_of g.M.Monomial.vector g.R.CoeffRing.value c.args.learned.now) (sum_of g.M.Monomial.vector g.R.CoeffRing.value c.args.rows.now) c.loop-row.reads c.loop-row.heap c.in-Some.row rows h e.1 in
+    let hr : c.in-Some.row < length c.args.rows.now = omega (arith, h, long_sum g.M.Monomial.vector g.R.CoeffRing.value c.args.rows.now) in
+    let hl : get_or c.loop-row.reads c.in-Some.row 0 < length c.args.learned.now = omega (arith, f.0, long_sum g.M.Monomial.vector g.R.CoeffRing.value c.args.learned.now) in
+    hl
+
+pub mul-product-requires-clause-right : goal.mul-product-requires-clause-right
+mul-product-requires-clause-right g c =
+    let e = c.in-Some.ensures in
+    let rows = c.loop-row.invariant.rows in
+    let h : c.in-Some.row < length (sum_of g.M.Monomial.vector g.R.CoeffRing.value c.args.rows.now) = omega (arith, e.0, rows.places_count) in
+    let f = taken_row g.M.Monomial.vector g.M.Monomial.order (g.M.Monomial.vector c.args.mono) (sum_of g.M.Monomial.vector g.R.CoeffRing.value c.args.learned.now) (sum_of g.M.Monomial.vector g.R.CoeffRing.value c.args.rows.now) c.loop-row.reads c.loop-row.heap c.in-Some.row rows h e.1 in
+    let hr : c.in-Some.row < length c.args.rows.now = omega (arith, h, long_sum g.M.Monomial.vector g.R.CoeffRing.value c.args.rows.now) in
+    let hl : get_or c.loop-row.reads c.in-Some.row 0 < length c.args.learned.now = omega (arith, f.0, long_sum g.M.Monomial.vector g.R.CoeffRing.value c.args.learned.now) in
+    All-get_or (λ t. g.R.CoeffRing.belongs (g.R.CoeffRing.characteristic c.args.ring) t.coef) c.args.learned.now (get_or c.loop-row.reads c.in-Some.row 0) c.index-learned-reads.result hl c.requires.learned_belong
+
+pub mul-product-requires-clause-room : goal.mul-product-requires-clause-room
+mul-product-requires-clause-room g c =
+    let rings = g.met.R.CoeffRing g.world.𝓛 g.world.𝓜 g.world.𝓡 ((λ s x. x), (λ x. x), (λ x. x), λ x. x) in
+    let e = c.in-Some.ensures in
+    let rows = c.loop-row.invariant.rows in
+    let h : c.in-Some.row < length (sum_of g.M.Monomial.vector g.R.CoeffRing.value c.args.rows.now) = omega (arith, e.0, rows.places_count) in
+    let f = taken_row g.M.Monomial.vector g.M.Monomial.order (g.M.Monomial.vector c.args.mono) (sum_of g.M.Monomial.vector g.R.CoeffRing.value c.args.learned.now) (sum_of g.M.Monomial.vector g.R.CoeffRing.value c.args.rows.now) c.loop-row.reads c.loop-row.heap c.in-Some.row rows h e.1 in
+    let hr : c.in-Some.row < length c.args.rows.now = omega (arith, h, long_sum g.M.Monomial.vector g.R.CoeffRing.value c.args.rows.now) in
+    let hl : get_or c.loop-row.reads c.in-Some.row 0 < length c.args.learned.now = omega (arith, f.0, long_sum g.M.Monomial.vector g.R.CoeffRing.value c.args.learned.now) in
+    let split : IsPermutation (left_to_read (sum_of g.M.Monomial.vector g.R.CoeffRing.value c.args.learned.now) c.loop-row.reads (sum_of g.M.Monomial.vector g.R.CoeffRing.value c.args.rows.now)) ((taken_product (sum_of g.M.Monomial.vector g.R.CoeffRing.value c.args.learned.now) (sum_of g.M.Monomial.vector g.R.CoeffRing.value c.args.rows.now) c.loop-row.reads c.in-Some.row) ∷ (left_to_read (sum_of g.M.Monomial.vector g.R.CoeffRing.value c.args.learned.now) (set c.loop-row.reads c.in-Some.row (get_or c.loop-row.reads c.in-Some.row 0 + 1)) (sum_of g.M.Monomial.vector g.R.CoeffRing.value c.args.rows.now))) = taken_split g.M.Monomial.vector g.M.Monomial.order (g.M.Monomial.vector c.args.mono) (sum_of g.M.Monomial.vector g.R.CoeffRing.value c.args.learned.now) (sum_of g.M.Monomial.vector g.R.CoeffRing.value c.args.rows.now) c.loop-row.reads c.loop-row.heap c.in-Some.row rows h e.1 in
+    let coefs : g.R.CoeffRing.value (get_or c.args.rows.now c.in-Some.row c.index-rows-at.result).coef *ℤ g.R.CoeffRing.value (get_or c.args.learned.now (get_or c.loop-row.reads c.in-Some.row 0) c.index-learned-reads.result).coef ≡ (taken_product (sum_of g.M.Monomial.vector g.R.CoeffRing.value c.args.learned.now) (sum_of g.M.Monomial.vector g.R.CoeffRing.value c.args.rows.now) c.loop-row.reads c.in-Some.row).coefficient =
+    coefs_of g.M.Monomial.vector g.R.CoeffRing.value c.args.rows.now c.args.learned.now c.loop-row.reads c.in-Some.row c.index-rows-at.result c.index-learned-reads.result hr hl in
+    rings.has_room c.args.ring _ (λ z. let k = ap unsigned_abs coefs in omega (arith, k, product_size g.M.Monomial.order (g.R.CoeffRing.characteristic c.args.ring) (g.M.Monomial.vector c.args.mono) (left_to_read (sum_of g.M.Monomial.vector g.R.CoeffRing.value c.args.learned.now) c.args.reads.now (sum_of g.M.Monomial.vector g.R.CoeffRing.value c.args.rows.now)) (left_to_read (sum_of g.M.Monomial.vector g.R.CoeffRing.value c.args.learned.now) c.loop-row.reads (sum_of g.M.Monomial.vector g.R.CoeffRing.value c.args.rows.now)) (left_to_read (sum_of g.M.Monomial.vector g.R.CoeffRing.value c.args.learned.now) (set c.loop-row.reads c.in-Some.row (get_or c.loop-row.reads c.in-Some.row 0 + 1)) (sum_of g.M.Monomial.vector g.R.CoeffRing.value c.args.rows.now)) (taken_product (sum_of g.M.Monomial.vector g.R.CoeffRing.value c.args.learned.now) (sum_of g.M.Monomial.vector g.R.CoeffRing.value c.args.rows.now) c.loop-row.reads c.in-Some.row) _ c.loop-row.invariant.summing split, c.requires.fits z))
+
+pub add-coef-requires-clause-room : goal.add-coef-requires-clause-room
+add-coef-requires-clause-room g c =
+    let rings = g.met.R.CoeffRing g.world.𝓛 g.world.𝓜 g.world.𝓡 ((λ s x. x), (λ x. x), (λ x. x), λ x. x) in
+    let e = c.in-Some.ensures in
+    let rows = c.loop-row.invariant.rows in
+    let h : c.in-Some.row < length (sum_of g.M.Monomial.vector g.R.CoeffRing.value c.args.rows.now) = omega (arith, e.0, rows.places_count) in
+    let f = taken_row g.M.Monomial.vector g.M.Monomial.order (g.M.Monomial.vector c.args.mono) (sum_of g.M.Monomial.vector g.R.CoeffRing.value c.args.learned.now) (sum_of g.M.Monomial.vector g.R.CoeffRing.value c.args.rows.now) c.loop-row.reads c.loop-row.heap c.in-Some.row rows h e.1 in
+    let hr : c.in-Some.row < length c.args.rows.now = omega (arith, h, long_sum g.M.Monomial.vector g.R.CoeffRing.value c.args.rows.now) in
+    let hl : get_or c.loop-row.reads c.in-Some.row 0 < length c.args.learned.now = omega (arith, f.0, long_sum g.M.Monomial.vector g.R.CoeffRing.value c.args.learned.now) in
+    let split : IsPermutation (left_to_read (sum_of g.M.Monomial.vector g.R.CoeffRing.value c.args.learned.now) c.loop-row.reads (sum_of g.M.Monomial.vector g.R.CoeffRing.value c.args.rows.now)) ((taken_product (sum_of g.M.Monomial.vector g.R.CoeffRing.value c.args.learned.now) (sum_of g.M.Monomial.vector g.R.CoeffRing.value c.args.rows.now) c.loop-row.reads c.in-Some.row) ∷ (left_to_read (sum_of g.M.Monomial.vector g.R.CoeffRing.value c.args.learned.now) (set c.loop-row.reads c.in-Some.row (get_or c.loop-row.reads c.in-Some.row 0 + 1)) (sum_of g.M.Monomial.vector g.R.CoeffRing.value c.args.rows.now))) = taken_split g.M.Monomial.vector g.M.Monomial.order (g.M.Monomial.vector c.args.mono) (sum_of g.M.Monomial.vector g.R.CoeffRing.value c.args.learned.now) (sum_of g.M.Monomial.vector g.R.CoeffRing.value c.args.rows.now) c.loop-row.reads c.loop-row.heap c.in-Some.row rows h e.1 in
+    let mono : (taken_product (sum_of g.M.Monomial.vector g.R.CoeffRing.value c.args.learned.now) (sum_of g.M.Monomial.vector g.R.CoeffRing.value c.args.rows.now) c.loop-row.reads c.in-Some.row).monomial ≡ (g.M.Monomial.vector c.args.mono) = taken_mono g.M.Monomial.vector g.M.Monomial.order (g.M.Monomial.vector c.args.mono) (sum_of g.M.Monomial.vector g.R.CoeffRing.value c.args.learned.now) (sum_of g.M.Monomial.vector g.R.CoeffRing.value c.args.rows.now) c.loop-row.reads c.loop-row.heap c.in-Some.row rows h e.1 in
+    let coefs : g.R.CoeffRing.value (get_or c.args.rows.now c.in-Some.row c.index-rows-at.result).coef *ℤ g.R.CoeffRing.value (get_or c.args.learned.now (get_or c.loop-row.reads c.in-Some.row 0) c.index-learned-reads.result).coef ≡ (taken_product (sum_of g.M.Monomial.vector g.R.CoeffRing.value c.args.learned.now) (sum_of g.M.Monomial.vector g.R.CoeffRing.value c.args.rows.now) c.loop-row.reads c.in-Some.row).coefficient =
+    coefs_of g.M.Monomial.vector g.R.CoeffRing.value c.args.rows.now c.args.learned.now c.loop-row.reads c.in-Some.row c.index-rows-at.result c.index-learned-reads.result hr hl in
+    rings.has_room c.args.ring _ (λ z.
+    let s = subst (λ (q : ℕ). Summing g.M.Monomial.order q (g.M.Monomial.vector c.args.mono) (left_to_read (sum_of g.M.Monomial.vector g.R.CoeffRing.value c.args.learned.now) c.args.reads.now (sum_of g.M.Monomial.vector g.R.CoeffRing.value c.args.rows.now)) (left_to_read (sum_of g.M.Monomial.vector g.R.CoeffRing.value c.args.learned.now) c.loop-row.reads (sum_of g.M.Monomial.vector g.R.CoeffRing.value c.args.rows.now)) (g.R.CoeffRing.value c.loop-row.coef)) z c.loop-row.invariant.summing in
+    let p : g.R.CoeffRing.value c.mul-product.result ≡ (taken_product (sum_of g.M.Monomial.vector g.R.CoeffRing.value c.args.learned.now) (sum_of g.M.Monomial.vector g.R.CoeffRing.value c.args.rows.now) c.loop-row.reads c.in-Some.row).coefficient = c.mul-product.ensures.value ∙ ap (red (g.R.CoeffRing.characteristic c.args.ring)) coefs ∙ ap (λ (q : ℕ). red q (taken_product (sum_of g.M.Monomial.vector g.R.CoeffRing.value c.args.learned.now) (sum_of g.M.Monomial.vector g.R.CoeffRing.value c.args.rows.now) c.loop-row.reads c.in-Some.row).coefficient) z in
+    omega (arith, sum_size g.M.Monomial.order (g.M.Monomial.vector c.args.mono) (left_to_read (sum_of g.M.Monomial.vector g.R.CoeffRing.value c.args.learned.now) c.args.reads.now (sum_of g.M.Monomial.vector g.R.CoeffRing.value c.args.rows.now)) (left_to_read (sum_of g.M.Monomial.vector g.R.CoeffRing.value c.args.learned.now) c.loop-row.reads (sum_of g.M.Monomial.vector g.R.CoeffRing.value c.args.rows.now)) (left_to_read (sum_of g.M.Monomial.vector g.R.CoeffRing.value c.args.learned.now) (set c.loop-row.reads c.in-Some.row (get_or c.loop-row.reads c.in-Some.row 0 + 1)) (sum_of g.M.Monomial.vector g.R.CoeffRing.value c.args.rows.now)) (taken_product (sum_of g.M.Monomial.vector g.R.CoeffRing.value c.args.learned.now) (sum_of g.M.Monomial.vector g.R.CoeffRing.value c.args.rows.now) c.loop-row.reads c.in-Some.row) (g.R.CoeffRing.value c.loop-row.coef) (g.R.CoeffRing.value c.mul-product.result) s split mono p, c.requires.fits z))
+
+pub loop-row-smaller : goal.loop-row-smaller
+loop-row-smaller g c =
+    let e = c.in-Some.ensures in
+    let rows = c.loop-row.invariant.rows in
+    let h : c.in-Some.row < length (sum_of g.M.Monomial.vector g.R.CoeffRing.value c.args.rows.now) = omega (arith, e.0, rows.places_count) in
+    let f = taken_row g.M.Monomial.vector g.M.Monomial.order (g.M.Monomial.vector c.args.mono) (sum_of g.M.Monomial.vector g.R.CoeffRing.value c.args.learned.now) (sum_of g.M.Monomial.vector g.R.CoeffRing.value c.args.rows.now) c.loop-row.reads c.loop-row.heap c.in-Some.row rows h e.1 in
+    let hr : c.in-Some.row < length c.args.rows.now = omega (arith, h, long_sum g.M.Monomial.vector g.R.CoeffRing.value c.args.rows.now) in
+    let hl : get_or c.loop-row.reads c.in-Some.row 0 < length c.args.learned.now = omega (arith, f.0, long_sum g.M.Monomial.vector g.R.CoeffRing.value c.args.learned.now) in
+    let split : IsPermutation (left_to_read (sum_of g.M.Monomial.vector g.R.CoeffRing.value c.args.learned.now) c.loop-row.reads (sum_of g.M.Monomial.vector g.R.CoeffRing.value c.args.rows.now)) ((taken_product (sum_of g.M.Monomial.vector g.R.CoeffRing.value c.args.learned.now) (sum_of g.M.Monomial.vector g.R.CoeffRing.value c.args.rows.now) c.loop-row.reads c.in-Some.row) ∷ (left_to_read (sum_of g.M.Monomial.vector g.R.CoeffRing.value c.args.learned.now) (set c.loop-row.reads c.in-Some.row (get_or c.loop-row.reads c.in-Some.row 0 + 1)) (sum_of g.M.Monomial.vector g.R.CoeffRing.value c.args.rows.now))) = taken_split g.M.Monomial.vector g.M.Monomial.order (g.M.Monomial.vector c.args.mono) (sum_of g.M.Monomial.vector g.R.CoeffRing.value c.args.learned.now) (sum_of g.M.Monomial.vector g.R.CoeffRing.value c.args.rows.now) c.loop-row.reads c.loop-row.heap c.in-Some.row rows h e.1 in
+    subst (λ (reads : List ℕ). length (left_to_read (sum_of g.M.Monomial.vector g.R.CoeffRing.value c.args.learned.now) reads (sum_of g.M.Monomial.vector g.R.CoeffRing.value c.args.rows.now)) < length (left_to_read (sum_of g.M.Monomial.vector g.R.CoeffRing.value c.args.learned.now) c.loop-row.reads (sum_of g.M.Monomial.vector g.R.CoeffRing.value c.args.rows.now))) (sym c.move_on.ensures.reads) (fewer_left (left_to_read (sum_of g.M.Monomial.vector g.R.CoeffRing.value c.args.learned.now) c.loop-row.reads (sum_of g.M.Monomial.vector g.R.CoeffRing.value c.args.rows.now)) (left_to_read (sum_of g.M.Monomial.vector g.R.CoeffRing.value c.args.learned.now) (set c.loop-row.reads c.in-Some.row (get_or c.loop-row.reads c.in-Some.row 0 + 1)) (sum_of g.M.Monomial.vector g.R.CoeffRing.value c.args.rows.now)) (taken_product (sum_of g.M.Monomial.vector g.R.CoeffRing.value c.args.learned.now) (sum_of g.M.Monomial.vector g.R.CoeffRing.value c.args.rows.now) c.loop-row.reads c.in-Some.row) split)
+
+pub loop-row-preserved : goal.loop-row-preserved
+loop-row-preserved g c =
+    let e = c.in-Some.ensures in
+    let rows = c.loop-row.invariant.rows in
+    let h : c.in-Some.row < length (sum_of g.M.Monomial.vector g.R.CoeffRing.value c.args.rows.now) = omega (arith, e.0, rows.places_count) in
+    let f = taken_row g.M.Monomial.vector g.M.Monomial.order (g.M.Monomial.vector c.args.mono) (sum_of g.M.Monomial.vector g.R.CoeffRing.value c.args.learned.now) (sum_of g.M.Monomial.vector g.R.CoeffRing.value c.args.rows.now) c.loop-row.reads c.loop-row.heap c.in-Some.row rows h e.1 in
+    let hr : c.in-Some.row < length c.args.rows.now = omega (arith, h, long_sum g.M.Monomial.vector g.R.CoeffRing.value c.args.rows.now) in
+    let hl : get_or c.loop-row.reads c.in-Some.row 0 < length c.args.learned.now = omega (arith, f.0, long_sum g.M.Monomial.vector g.R.CoeffRing.value c.args.learned.now) in
+    let split : IsPermutation (left_to_read (sum_of g.M.Monomial.vector g.R.CoeffRing.value c.args.learned.now) c.loop-row.reads (sum_of g.M.Monomial.vector g.R.CoeffRing.value c.args.rows.now)) ((taken_product (sum_of g.M.Monomial.vector g.R.CoeffRing.value c.args.learned.now) (sum_of g.M.Monomial.vector g.R.CoeffRing.value c.args.rows.now) c.loop-row.reads c.in-Some.row) ∷ (left_to_read (sum_of g.M.Monomial.vector g.R.CoeffRing.value c.args.learned.now) (set c.loop-row.reads c.in-Some.row (get_or c.loop-row.reads c.in-Some.row 0 + 1)) (sum_of g.M.Monomial.vector g.R.CoeffRing.value c.args.rows.now))) = taken_split g.M.Monomial.vector g.M.Monomial.order (g.M.Monomial.vector c.args.mono) (sum_of g.M.Monomial.vector g.R.CoeffRing.value c.args.learned.now) (sum_of g.M.Monomial.vector g.R.CoeffRing.value c.args.rows.now) c.loop-row.reads c.loop-row.heap c.in-Some.row rows h e.1 in
+    let mono : (taken_product (sum_of g.M.Monomial.vector g.R.CoeffRing.value c.args.learned.now) (sum_of g.M.Monomial.vector g.R.CoeffRing.value c.args.rows.now) c.loop-row.reads c.in-Some.row).monomial ≡ (g.M.Monomial.vector c.args.mono) = taken_mono g.M.Monomial.vector g.M.Monomial.order (g.M.Monomial.vector c.args.mono) (sum_of g.M.Monomial.vector g.R.CoeffRing.value c.args.learned.now) (sum_of g.M.Monomial.vector g.R.CoeffRing.value c.args.rows.now) c.loop-row.reads c.loop-row.heap c.in-Some.row rows h e.1 in
+    let coefs : g.R.CoeffRing.value (get_or c.args.rows.now c.in-Some.row c.index-rows-at.result).coef *ℤ g.R.CoeffRing.value (get_or c.args.learned.now (get_or c.loop-row.reads c.in-Some.row 0) c.index-learned-reads.result).coef ≡ (taken_product (sum_of g.M.Monomial.vector g.R.CoeffRing.value c.args.learned.now) (sum_of g.M.Monomial.vector g.R.CoeffRing.value c.args.rows.now) c.loop-row.reads c.in-Some.row).coefficient =
+    coefs_of g.M.Monomial.vector g.R.CoeffRing.value c.args.rows.now c.args.learned.now c.loop-row.reads c.in-Some.row c.index-rows-at.result c.index-learned-reads.result hr hl in
+    record {
+      rows = c.move_on.ensures.rows (g.M.Monomial.vector c.args.mono) c.loop-row.heap (record { rows_are = rows; among = h; taken = e.1; out = e.2 });
+      summing = subst (λ (reads : List ℕ). Summing g.M.Monomial.order (g.R.CoeffRing.characteristic c.args.ring) (g.M.Monomial.vector c.args.mono) (left_to_read (sum_of g.M.Monomial.vector g.R.CoeffRing.value c.args.learned.now) c.args.reads.now (sum_of g.M.Monomial.vector g.R.CoeffRing.value c.args.rows.now)) (left_to_read (sum_of g.M.Monomial.vector g.R.CoeffRing.value c.args.learned.now) reads (sum_of g.M.Monomial.vector g.R.CoeffRing.value c.args.rows.now)) (g.R.CoeffRing.value c.add-coef.result)) (sym c.move_on.ensures.reads)
+          (sum_more g.M.Monomial.order (g.R.CoeffRing.characteristic c.args.ring) (g.M.Monomial.vector c.args.mono) (left_to_read (sum_of g.M.Monomial.vector g.R.CoeffRing.value c.args.learned.now) c.args.reads.now (sum_of g.M.Monomial.vector g.R.CoeffRing.value c.args.rows.now)) (left_to_read (sum_of g.M.Monomial.vector g.R.CoeffRing.value c.args.learned.now) c.loop-row.reads (sum_of g.M.Monomial.vector g.R.CoeffRing.value c.args.rows.now)) (left_to_read (sum_of g.M.Monomial.vector g.R.CoeffRing.value c.args.learned.now) (set c.loop-row.reads c.in-Some.row (get_or c.loop-row.reads c.in-Some.row 0 + 1)) (sum_of g.M.Monomial.vector g.R.CoeffRing.value c.args.rows.now)) (taken_product (sum_of g.M.Monomial.vector g.R.CoeffRing.value c.args.learned.now) (sum_of g.M.Monomial.vector g.R.CoeffRing.value c.args.rows.now) c.loop-row.reads c.in-Some.row) (g.R.CoeffRing.value c.loop-row.coef) (g.R.CoeffRing.value c.mul-product.result) (g.R.CoeffRing.value c.add-coef.result) c.loop-row.invariant.summing split mono (c.mul-product.ensures.value ∙ ap (red (g.R.CoeffRing.characteristic c.args.ring)) coefs) c.add-coef.ensures.value);
+      in_ring = c.add-coef.ensures.belongs;
+    }
+
+pub returns-clause-out : goal.returns-clause-out
+returns-clause-out g c =
+    let monos = g.met.M.Monomial g.world.𝓛 g.world.𝓜 g.world.𝓡 ((λ s x. x), (λ x. x), (λ x. x), λ x. x) in
+    let none = (c.in_default.ensures).0 in
+    sum_ends g.M.Monomial.order (g.R.CoeffRing.characteristic c.args.ring) (left_to_read (sum_of g.M.Monomial.vector g.R.CoeffRing.value c.args.learned.now) c.args.reads.now (sum_of g.M.Monomial.vector g.R.CoeffRing.value c.args.rows.now)) (left_to_read (sum_of g.M.Monomial.vector g.R.CoeffRing.value c.args.learned.now) c.loop-row.reads (sum_of g.M.Monomial.vector g.R.CoeffRing.value c.args.rows.now)) (term_of g.M.Monomial.vector g.R.CoeffRing.value (record { mono = c.args.mono; coef = c.loop-row.coef })) c.loop-row.invariant.summing
+    (all_below g.M.Monomial.order (g.M.Monomial.vector c.args.mono) (left_to_read (sum_of g.M.Monomial.vector g.R.CoeffRing.value c.args.learned.now) c.loop-row.reads (sum_of g.M.Monomial.vector g.R.CoeffRing.value c.args.rows.now)) (left_below g.M.Monomial.vector g.M.Monomial.order (g.M.Monomial.vector c.args.mono) (sum_of g.M.Monomial.vector g.R.CoeffRing.value c.args.learned.now) (sum_of g.M.Monomial.vector g.R.CoeffRing.value c.args.rows.now) c.loop-row.reads c.loop-row.heap g.M.Monomial.VARS (monos.vars c.args.mono) c.loop-row.invariant.rows none c.requires.rows_fall (over_sum g.M.Monomial.vector g.R.CoeffRing.value g.M.Monomial.VARS monos.vars c.args.rows.now) c.requires.learned_fall (over_sum g.M.Monomial.vector g.R.CoeffRing.value g.M.Monomial.VARS monos.vars c.args.learned.now)))
+
+pub returns-clause-rows : goal.returns-clause-rows
+returns-clause-rows g c =
+    let none = c.in_default.ensures in
+    subst (λ places. AreRows g.M.Monomial.vector g.M.Monomial.order None (sum_of g.M.Monomial.vector g.R.CoeffRing.value c.args.learned.now) (sum_of g.M.Monomial.vector g.R.CoeffRing.value c.args.rows.now) c.loop-row.reads places) (sym none.1) (untaken_rows g.M.Monomial.vector g.M.Monomial.order (g.M.Monomial.vector c.args.mono) (sum_of g.M.Monomial.vector g.R.CoeffRing.value c.args.learned.now) (sum_of g.M.Monomial.vector g.R.CoeffRing.value c.args.rows.now) c.loop-row.reads c.loop-row.heap c.loop-row.invariant.rows none.0)

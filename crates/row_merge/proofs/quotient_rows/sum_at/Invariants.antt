@@ -1,0 +1,15 @@
+use Rattle.std.proofs.Common.{length, Some}
+use Rattle.canonical_terms.specs.View.{sum_of}
+use Rattle.row_merge.specs.Learned.{left_to_read, AreRows}
+use Rattle.row_merge.proofs.ProductSums.{Summing}
+use Rattle.row_merge.proofs.quotient_rows.sum_at.Given as goal
+
+abbrev pub invariant-loop-row : goal.invariant-loop-row
+invariant-loop-row g l = record {
+  rows : AreRows g.M.Monomial.vector g.M.Monomial.order (Some (g.M.Monomial.vector l.mono)) (sum_of g.M.Monomial.vector g.R.CoeffRing.value l.learned) (sum_of g.M.Monomial.vector g.R.CoeffRing.value l.rows) l.reads l.heap;
+  summing : Summing g.M.Monomial.order (g.R.CoeffRing.characteristic l.ring) (g.M.Monomial.vector l.mono) (left_to_read (sum_of g.M.Monomial.vector g.R.CoeffRing.value l.learned) l.initial.reads (sum_of g.M.Monomial.vector g.R.CoeffRing.value l.rows)) (left_to_read (sum_of g.M.Monomial.vector g.R.CoeffRing.value l.learned) l.reads (sum_of g.M.Monomial.vector g.R.CoeffRing.value l.rows)) (g.R.CoeffRing.value l.coef);
+  in_ring : g.R.CoeffRing.belongs (g.R.CoeffRing.characteristic l.ring) l.coef;
+}
+
+abbrev pub decreases-loop-row : goal.decreases-loop-row
+decreases-loop-row g l = length (left_to_read (sum_of g.M.Monomial.vector g.R.CoeffRing.value l.learned) l.reads (sum_of g.M.Monomial.vector g.R.CoeffRing.value l.rows))
