@@ -1,4 +1,3 @@
 pub mod OutsideLemmas
 pub mod AnswerLemmas
 pub mod SummaryLemmas
-pub mod ProductLemmas

@@ -12,7 +12,7 @@ ghost use Rattle.sdmp_top.specs.Written.{AppendsPieces, IsAnswering};
 
 use crate::answering::answer_lines;
 use crate::outside::Sink;
-use crate::product::PairProducts;
+use crate::product::Sequential;
 use crate::stop::Stop;
 use crate::writing::write_all;
 use calc_session::{
@@ -62,9 +62,9 @@ macro_rules! by_variables {
     ($alloc:expr, $header:expr, $sink:expr; $($n:literal),*) => {
         match $header.names.len() {
             $($n => match $header.ring {
-                RingChoice::Integers => answer_in::<Integers, Packed<$n>, PairProducts, K>($alloc, Integers, &PairProducts, $header, $sink),
+                RingChoice::Integers => answer_in::<Integers, Packed<$n>, Sequential, K>($alloc, Integers, &Sequential, $header, $sink),
                 RingChoice::Modulus(p) => match Residues::new(p) {
-                    Some(ring) => answer_in::<Residues, Packed<$n>, PairProducts, K>($alloc, ring, &PairProducts, $header, $sink),
+                    Some(ring) => answer_in::<Residues, Packed<$n>, Sequential, K>($alloc, ring, &Sequential, $header, $sink),
                     None => unreachable!(),
                 },
             },)*
