@@ -1,11 +1,8 @@
 -- The rule, said of the views of both ends.
-use Rattle.std.proofs.Common.{◌≡◌, ℕ, ◌+◌, ◌<◌, ◌≤◌, List, ◌++◌, length, get_or, sym, ap, ◌∙◌, subst, arith, length-append}
+use Rattle.std.proofs.Common.{◌≡◌, ℕ, ◌+◌, ◌<◌, List, ◌++◌, length, get_or, sym, ap, ◌∙◌, subst, arith, length-append}
 use mathlib.Core.List.{IsPrefix}
-use mathlib.Core.Option.{some}
-use lib.ListN.{get_elem?}
-use Rattle.term_ring.specs.declared.view.Kind.TheVariants.{Writing, Reading, SentCopy, TakenCopy}
 use Rattle.term_ring.specs.Rule.{place, WriterKnows, ReaderKnows, KnowsAs}
-use Rattle.term_ring.specs.Moments.{Moment, AtEachMoment}
+use Rattle.term_ring.specs.Moments.{AtEachMoment}
 
 module _ {N C : Type 0} (words : N → List ℕ) (fits : C → N → Type 0) (carry : C → List N → Type 0) where
   pub at_each_moment : AtEachMoment words fits carry

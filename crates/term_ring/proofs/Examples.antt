@@ -1,16 +1,14 @@
 -- The scripts of the tests.
-use Rattle.std.proofs.Common.{◌≡◌, ℕ, zero, suc, ℤ, pos, negsuc, ◌%◌, List, [], ◌∷◌, ◌++◌, map, length, refl, sym, ap, ap₂, ◌∙◌, subst, eqb, cond, true, Bool, All, arith}
+use Rattle.std.proofs.Common.{◌≡◌, ℕ, zero, suc, ℤ, pos, negsuc, ◌%◌, List, [], ◌∷◌, map, length, refl, sym, ap, ap₂, ◌∙◌, subst, eqb, cond, true, All, arith}
 use Rattle.std.proofs.lemmas.List.Elements.{All-push, All-map}
 use Rattle.sdmp_laws.specs.Order.{Order, Grlex, ◌⋅◌, zeros, degree, alike, is_below, tie_below, lex_below}
-use Rattle.sdmp_laws.specs.Ring.{red}
 use Rattle.sdmp_laws.specs.Poly.{Term as PlainTerm, IsPoly, Over, terms, times, term_times, row, every, part, put, keep, is_zero, term_plus}
 use Rattle.sdmp_laws.proofs.TermsLemmas.{terms_of_poly}
 use Rattle.sdmp_laws.proofs.Ints.{mul_one}
-use Rattle.canonical_terms.specs.View.{term_of, sum_of}
+use Rattle.canonical_terms.specs.View.{term_of}
 use Rattle.canonical_terms.specs.declared.term.TermOf.{TermOf}
 use Rattle.whole_laws.specs.Notes.{Script, ProductScript, Product, script_list}
-use Rattle.term_ring.specs.declared.note.NoteOf.{NoteOf}
-use Rattle.term_ring.specs.declared.note.NoteOf.TheVariants.{Term, Mark, End}
+use Rattle.term_ring.specs.declared.note.NoteOf.TheVariants.{Term, End}
 use Rattle.term_ring.specs.Plain.{modulus_of}
 use Rattle.term_ring.specs.Carried.{Fits, Carries, whole}
 use Rattle.term_ring.proofs.Carrying.{carries_whole}

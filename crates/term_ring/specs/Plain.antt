@@ -1,5 +1,5 @@
 -- Scripts as plain data.
-use Rattle.std.specs.Prelude.{◌≡◌, ℕ, ◌<◌, Option, Some, None}
+use Rattle.std.specs.Prelude.{ℕ, Option, Some, None}
 use Rattle.sdmp_laws.specs.Order.{Order}
 use Rattle.sdmp_laws.specs.Canonical.{Polynomial}
 use Rattle.sdmp_laws.specs.declared.Mode.{Mode}

@@ -19,7 +19,7 @@ impl<R: CoeffRing> Model for Scalars<R> {
 }
 
 impl<R: CoeffRing> Scalars<R> {
-    /// The ring of this value.
+    /// The ring that this value stands for.
     pub fn new(ring: R) -> Scalars<R>
         ensures { result ≡ R.characteristic ring }
     {

@@ -1,4 +1,4 @@
-use Rattle.std.proofs.Common.{rules, ◌≡◌, ℕ, ℤ, pos, negsuc, [], ◌∷◌, ap, ◌∙◌}
+use Rattle.std.proofs.Common.{rules, ◌≡◌, ℤ, pos, negsuc, [], ◌∷◌, ap, ◌∙◌}
 use Rattle.sdmp_laws.specs.Order.{Grlex}
 use Rattle.sdmp_laws.specs.Poly.{terms}
 use Rattle.packed_monomial.specs.Packing.{vector_of}

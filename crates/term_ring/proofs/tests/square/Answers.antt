@@ -4,8 +4,6 @@ use Rattle.std.proofs.lemmas.List.Elements.{All-push}
 use Rattle.sdmp_laws.specs.Order.{degree}
 use Rattle.sdmp_laws.specs.Limits.{greatest_norm}
 use Rattle.packed_monomial.specs.Packing.{vector_of, limit_of}
-use Rattle.packed_monomial.specs.declared.packed.Packed.{Packed}
-use Rattle.canonical_terms.specs.declared.term.TermOf.{TermOf}
 use Rattle.term_ring.proofs.tests.square.Goals as goal
 
 pub loop-i-preserved : goal.loop-i-preserved

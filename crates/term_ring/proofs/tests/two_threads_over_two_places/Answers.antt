@@ -1,4 +1,4 @@
-use Rattle.std.proofs.Common.{rules, ◌≡◌, ◌≤◌, ℕ, ℤ, pos, [], ◌∷◌, All, sym, ap, ◌∙◌, subst}
+use Rattle.std.proofs.Common.{rules, ◌≡◌, ◌≤◌, ℤ, pos, [], ◌∷◌, All, sym, ap, ◌∙◌, subst}
 use Rattle.std.specs.Prelude.{unsigned_abs}
 use Rattle.sdmp_laws.specs.Order.{Grlex, zeros}
 use Rattle.sdmp_laws.specs.Poly.{terms}

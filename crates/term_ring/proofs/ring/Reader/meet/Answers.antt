@@ -1,4 +1,4 @@
-use Rattle.std.proofs.Common.{rules, arith, ap, ◌∙◌}
+use Rattle.std.proofs.Common.{arith, ap, ◌∙◌}
 use Rattle.term_ring.specs.Steps.{copy_of}
 use Rattle.term_ring.proofs.Keeps.{copies_sent, told_sent, looks_tail}
 use Rattle.term_ring.proofs.ring.Reader.meet.Goals as goal

@@ -1,4 +1,4 @@
-use Rattle.std.proofs.Common.{rules, arith, ◌≡◌, ◌<◌, ◌≤◌, ◌+◌, ◌∷◌, ◌++◌, [], ℕ, List, Some, length, sym, ap, ◌∙◌, subst}
+use Rattle.std.proofs.Common.{rules, arith, ◌≡◌, ◌<◌, ◌≤◌, ◌+◌, ℕ, List, Some, length, sym, ap, ◌∙◌, subst}
 use Rattle.term_ring.specs.Carried.{Carries}
 use Rattle.term_ring.proofs.Carrying.{carries_front}
 use Rattle.term_ring.proofs.Keeps.{looks_tail, takes_note}

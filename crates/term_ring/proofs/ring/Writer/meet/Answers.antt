@@ -1,5 +1,4 @@
-use Rattle.std.proofs.Common.{rules, arith, ap, ◌∙◌}
-use Rattle.std.proofs.lemmas.Grind.{common_steps}
+use Rattle.std.proofs.Common.{arith, ap, ◌∙◌}
 use Rattle.term_ring.specs.Steps.{copy_of}
 use Rattle.term_ring.proofs.Keeps.{copies_taken, told_taken, looks_head}
 use Rattle.term_ring.proofs.ring.Writer.meet.Goals as goal
