@@ -1,0 +1,13 @@
+pub mod HeadLemmas
+pub mod Summing
+pub mod Steps
+pub mod Emitting
+pub mod Counts
+pub mod Finish
+pub mod States
+pub mod Running
+pub mod Sound
+pub mod EmitSound
+pub mod Begun
+pub mod Taking
+pub mod Shares

@@ -1,0 +1,53 @@
+-- Which ring a merge reads, and which product it makes.
+use Rattle.std.specs.Prelude.{◌≡◌, ℕ, zero, suc, ◌+◌, ◌<◌, ◌≤◌, ◌^◌, List, [], ◌∷◌, length, slice_index_or, sum_by}
+use Rattle.atomic_table.specs.Seated.{TableId}
+use Rattle.sdmp_laws.specs.Order.{Grlex}
+use Rattle.sdmp_laws.specs.Limits.{HasRoom}
+use Rattle.sdmp_laws.specs.Canonical.{IsCanonical}
+use Rattle.whole_laws.specs.Notes.{Note, Product, Script, ProductScript, QuotientScript, script_list}
+
+-- a ring, by its table, its script and its number of places
+pub record RingName : Type 0 where
+  pub table : TableId
+  pub script : Script
+  pub places : ℕ
+
+-- the product that a script is of
+abbrev pub script_product : Script → Product
+script_product (ProductScript m W w) = m
+script_product (QuotientScript d W w) = record { ord = d.ord; p = d.p; n = d.n; f = d.f; g = d.g }
+
+-- the product of the first ring
+abbrev pub first_product : List RingName → Product
+first_product [] = record { ord = Grlex; p = 0; n = 0; f = []; g = [] }
+first_product (a ∷ rings) = script_product a.script
+
+-- the rings are those of all the workers of the product, in order
+abbrev pub HasScripts : Product → List RingName → Type 0
+HasScripts m rings = (w : ℕ) (d : RingName) → w < length rings → (slice_index_or rings w d).script ≡ ProductScript m (length rings) w
+
+-- the operands are polynomials of fewer than 2^30 terms each, and their product has room
+pub record IsFit (lim : ℕ) (m : Product) : Type 0 where
+  pub left : IsCanonical m.ord m.p m.n lim m.f
+  pub right : IsCanonical m.ord m.p m.n lim m.g
+  pub room : HasRoom lim m.p m.f m.g
+  pub few_left : length m.f < 2 ^ 30
+  pub few_right : length m.g < 2 ^ 30
+
+-- no number of b is below that of a at the same place
+pub record NoneBelow (a b : List ℕ) : Type 0 where
+  pub long : length b ≡ length a
+  pub each : (k : ℕ) → slice_index_or a k 0 ≤ slice_index_or b k 0
+
+-- how many notes the readers have taken
+abbrev pub notes_count : List (List Note) → ℕ
+notes_count taken = sum_by (λ notes. length notes) taken
+
+-- how many notes the workers from w on send, of whom there are k: the terms of their lists and an end each
+unfoldable pub notes_from : Product → ℕ → ℕ → ℕ → ℕ
+notes_from m W w zero = 0
+notes_from m W w (suc k) = length (script_list (ProductScript m W w)) + 1 + notes_from m W (suc w) k
+
+-- how many notes all workers send
+unfoldable pub notes_total : Product → ℕ → ℕ
+notes_total m W = notes_from m W 0 W

@@ -1,0 +1,14 @@
+//! The shared merge of a product: one value that takes the notes of all workers' rings and emits the terms of the product.
+#![tactic(auto)]
+
+mod advance;
+mod answer;
+mod calls;
+mod head;
+mod heads;
+mod merge;
+mod receipt;
+
+pub use answer::Advance;
+pub use merge::Merge;
+pub use receipt::{Advanced, MergeTally};
