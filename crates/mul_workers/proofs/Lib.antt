@@ -1,0 +1,4 @@
+pub mod Sending
+pub mod Teams
+pub mod Steps
+pub mod Shares

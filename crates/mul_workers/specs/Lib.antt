@@ -1,0 +1,5 @@
+pub mod Writers
+pub mod Senders
+pub mod Inside
+pub mod Workers
+pub mod Rounds

@@ -1,0 +1,5 @@
+pub mod Between
+pub mod Carrying
+pub mod Keeps
+pub mod Shares
+pub mod Spelled
