@@ -1,6 +1,0 @@
-pub mod OutcomeLemmas
-pub mod Turns
-pub mod TakenOut
-pub mod Fitting
-pub mod Loop
-pub mod Ends

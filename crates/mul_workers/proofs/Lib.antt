@@ -1,4 +1,0 @@
-pub mod Sending
-pub mod Teams
-pub mod Steps
-pub mod Shares

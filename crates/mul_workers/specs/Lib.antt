@@ -1,5 +1,0 @@
-pub mod Writers
-pub mod Senders
-pub mod Inside
-pub mod Workers
-pub mod Rounds
