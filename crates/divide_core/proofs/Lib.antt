@@ -1,0 +1,5 @@
+pub mod Turns
+pub mod TakenOut
+pub mod Fitting
+pub mod Loop
+pub mod Ends

@@ -1,0 +1,13 @@
+//! Division of polynomials.
+#![tactic(auto)]
+
+pub mod alone;
+pub mod answer;
+mod bound;
+mod fit;
+mod next;
+#[cfg(test)]
+mod tests;
+
+pub use alone::divide_alone;
+pub use answer::{DivideFault, Division};
