@@ -1,0 +1,6 @@
+pub mod Between
+pub mod Carrying
+pub mod Examples
+pub mod Keeps
+pub mod Shares
+pub mod Spelled

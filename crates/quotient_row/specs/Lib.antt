@@ -1,0 +1,8 @@
+pub mod Ends
+pub mod Examples
+pub mod Legal
+pub mod Moments
+pub mod Names
+pub mod Rule
+pub mod Spelling
+pub mod Steps
