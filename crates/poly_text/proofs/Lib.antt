@@ -14,3 +14,5 @@ pub mod Weights
 pub mod Reduced
 pub mod WordLemmas
 pub mod NameLemmas
+pub mod StepTable
+pub mod ShortNumbers

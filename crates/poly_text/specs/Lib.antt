@@ -5,3 +5,4 @@ pub mod Exponents
 pub mod Reads
 pub mod ReadsTerms
 pub mod Printed
+pub mod Codes

@@ -1,7 +1,7 @@
 //! The powers of a term, added up.
 ghost use Rattle.std.specs.Prelude.{◌≡◌, ◌≤◌, ◌<◌, ◌++◌, ℕ, List, length, min, drop, IfOk};
 ghost use Rattle.text_laws.specs.Grammar.{Power, Factor, IsPower, AreFactors, spell_power, spell_factors, EndsPower, EndsTerm};
-ghost use Rattle.text_laws.specs.Summands.{is_known};
+ghost use Rattle.text_laws.specs.Summands.{is_known, same_name};
 ghost use Rattle.poly_text.specs.Exponents.{added, top};
 ghost use Rattle.poly_text.specs.Reads.{AddsPower, AddsFactors};
 
@@ -16,14 +16,26 @@ pub struct UnknownName {
     pub at: usize,
 }
 
+/// Whether the words are the same. Most names are of one letter, and need no call.
+#[inline(always)]
+fn is_same(word: &[u8], name: &[u8]) -> bool
+    ensures { result ≡ same_name word.now name.now }
+{
+    if let ([letter], [byte]) = (word, name) {
+        return *letter == *byte;
+    }
+    word == name
+}
+
 /// Adds the exponent at the variable of that name, and answers whether there is one.
+#[inline(always)]
 fn add_power(names: &Names, name: &[u8], exponent: u32, exponents: &mut [u32]) -> bool
     requires { length names.now ≡ length exponents.old }
     ensures known { result ≡ is_known names.now name.now }
     ensures added { exponents.new ≡ added names.now name.now exponent exponents.old }
 {
     for i in 0..names.len() {
-        if names.word(i).as_bytes() == name {
+        if is_same(names.word(i).as_bytes(), name) {
             exponents[i] = exponents[i].saturating_add(exponent);
             return true;
         }
@@ -32,6 +44,7 @@ fn add_power(names: &Names, name: &[u8], exponent: u32, exponents: &mut [u32]) -
 }
 
 /// The number, at most u32::MAX.
+#[inline(always)]
 fn cap_exponent(n: u128) -> u32
     ensures { result ≡ min n top }
 {
@@ -43,6 +56,7 @@ fn cap_exponent(n: u128) -> u32
 }
 
 /// Reads the power that stands at the place, and adds it. The answer is the place behind it.
+#[inline(always)]
 pub fn read_one(
     names: &Names,
     bytes: &[u8],
@@ -65,6 +79,7 @@ pub fn read_one(
 }
 
 /// Reads the factors that begin at the place, and adds them. The answer is the place behind them.
+#[inline(always)]
 pub fn read_factors(
     names: &Names,
     bytes: &[u8],

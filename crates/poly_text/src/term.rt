@@ -19,6 +19,7 @@ pub struct ProductRead {
 }
 
 /// A number and its blanks: the number, at most u128::MAX, and the place behind them.
+#[inline(always)]
 fn read_number(bytes: &[u8], at: usize) -> (u128, usize)
     requires { at ≤ length bytes.now }
     ensures bound { result.1 ≤ length bytes.now }
@@ -32,6 +33,7 @@ fn read_number(bytes: &[u8], at: usize) -> (u128, usize)
 }
 
 /// Reads the term that begins at the place, behind its sign, and adds its powers. A term without a number has the number 1.
+#[inline(always)]
 pub fn read_product(
     names: &Names,
     bytes: &[u8],

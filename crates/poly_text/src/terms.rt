@@ -29,6 +29,7 @@ struct TermStart {
 }
 
 /// The term behind the sign at the place.
+#[inline(always)]
 fn behind_sign(bytes: &[u8], at: usize) -> TermStart
     requires { at < length bytes.now }
     ensures bound { result.at ≤ length bytes.now }
@@ -61,6 +62,7 @@ fn first_term(bytes: &[u8]) -> TermStart
 }
 
 /// What is held against the bound: over the integers the sum of the sizes, and else the size.
+#[inline(always)]
 fn weight_of(modulus: u64, sum: u128, size: u128) -> u128
     ensures { result ≡ weight modulus sum size }
 {
@@ -68,6 +70,7 @@ fn weight_of(modulus: u64, sum: u128, size: u128) -> u128
 }
 
 /// The coefficient of this sign and size, and None where it is out of bounds: over the integers `sum`, the sizes added up so far, counts, and else the size itself.
+#[inline(always)]
 fn coefficient<R: CoeffRing>(ring: R, negative: bool, size: u128, sum: u128) -> Option<R::E>
     requires { size ≤ sum }
     ensures belongs { IfSome result (λ a. R.belongs (R.characteristic ring) a) }
@@ -97,6 +100,7 @@ pub struct TermRead<M, E> {
 }
 
 /// Reads the term that begins at the place, behind its sign.
+#[inline(always)]
 fn read_term<R: CoeffRing, M: Monomial>(
     ring: R,
     names: &Names,
@@ -125,6 +129,7 @@ fn read_term<R: CoeffRing, M: Monomial>(
 }
 
 /// The first place, or else this one if it has a fault.
+#[inline(always)]
 fn first_of(first: Option<u64>, at: u64, is_fault: bool) -> Option<u64>
     ensures { result ≡ or_else first (if is_fault then Some at else None) }
 {
@@ -136,6 +141,7 @@ fn first_of(first: Option<u64>, at: u64, is_fault: bool) -> Option<u64>
 }
 
 /// Appends the term, if neither part is wanting.
+#[inline(always)]
 fn push_term<M: Copy, E: Copy>(
     terms: &mut Vec<TermOf<M, E>>,
     mono: Option<M>,
@@ -153,6 +159,7 @@ fn push_term<M: Copy, E: Copy>(
 }
 
 /// Reads the terms of a text that is in the grammar, in the order of the text, or finds their first fault.
+#[inline(never)]
 pub fn read_terms<R: CoeffRing, M: Monomial>(
     alloc: Global,
     ring: R,

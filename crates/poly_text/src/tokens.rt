@@ -3,10 +3,11 @@ ghost use Rattle.std.specs.Prelude.{◌≡◌, ◌≤◌, ◌<◌, ℕ, List, le
 ghost use Rattle.text_laws.specs.Reading.{is_blank, is_digit, is_word};
 ghost use Rattle.poly_text.specs.Tokens.{after, capped_front, raised_front, power_front};
 
-use crate::class::class_of_byte;
+use crate::class::{class_of_byte, is_digit_byte, is_word_byte};
 use text_laws::ByteClass;
 
 /// The place behind the blanks.
+#[inline(always)]
 pub fn skip_blanks(bytes: &[u8], start: usize) -> usize
     requires { start ≤ length bytes.now }
     ensures bound { result ≤ length bytes.now }
@@ -24,6 +25,7 @@ pub fn skip_blanks(bytes: &[u8], start: usize) -> usize
 }
 
 /// The place behind the letters and digits.
+#[inline(always)]
 fn skip_word(bytes: &[u8], start: usize) -> usize
     requires { start ≤ length bytes.now }
     ensures bound { result ≤ length bytes.now }
@@ -32,10 +34,10 @@ fn skip_word(bytes: &[u8], start: usize) -> usize
 {
     let mut i = start;
     while i < bytes.len() {
-        match class_of_byte(bytes[i]) {
-            ByteClass::Letter | ByteClass::Digit => i += 1,
-            _ => return i,
+        if !is_word_byte(bytes[i]) {
+            return i;
         }
+        i += 1;
     }
     i
 }
@@ -52,15 +54,13 @@ fn read_more_digits(bytes: &[u8], start: usize, number: u128) -> (u128, usize)
     let mut n = number;
     while i < bytes.len() {
         let b = bytes[i];
-        match class_of_byte(b) {
-            ByteClass::Digit => {
-                n = n
-                    .saturating_mul(10)
-                    .saturating_add(b.saturating_sub(b'0') as u128);
-                i += 1;
-            }
-            _ => return (n, i),
+        if !is_digit_byte(b) {
+            return (n, i);
         }
+        n = n
+            .saturating_mul(10)
+            .saturating_add(b.saturating_sub(b'0') as u128);
+        i += 1;
     }
     (n, i)
 }
@@ -69,6 +69,7 @@ fn read_more_digits(bytes: &[u8], start: usize, number: u128) -> (u128, usize)
 const SHORT: u64 = 1_000_000_000_000_000_000;
 
 /// The number that the digits write, at most u128::MAX, and the place behind them.
+#[inline(always)]
 pub fn read_digits(bytes: &[u8], start: usize) -> (u128, usize)
     requires { start ≤ length bytes.now }
     ensures bound { result.1 ≤ length bytes.now }
@@ -80,18 +81,17 @@ pub fn read_digits(bytes: &[u8], start: usize) -> (u128, usize)
     let mut n: u64 = 0;
     while i < bytes.len() && n <= SHORT {
         let b = bytes[i];
-        match class_of_byte(b) {
-            ByteClass::Digit => {
-                n = n * 10 + b.saturating_sub(b'0') as u64;
-                i += 1;
-            }
-            _ => return (n as u128, i),
+        if !is_digit_byte(b) {
+            return (n as u128, i);
         }
+        n = n * 10 + b.saturating_sub(b'0') as u64;
+        i += 1;
     }
     read_more_digits(bytes, i, n as u128)
 }
 
 /// The exponent behind a name, at most u128::MAX, and the place behind it and its blanks.
+#[inline(always)]
 fn read_raised(bytes: &[u8], start: usize) -> (u128, usize)
     requires { start ≤ length bytes.now }
     ensures bound { result.1 ≤ length bytes.now }
@@ -122,6 +122,7 @@ pub struct PowerRead {
 }
 
 /// Reads the power that begins at the place.
+#[inline(always)]
 pub fn read_power(bytes: &[u8], start: usize) -> PowerRead
     requires { start ≤ length bytes.now }
     ensures bound { result.next ≤ length bytes.now }

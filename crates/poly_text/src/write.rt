@@ -13,6 +13,7 @@ use sdmp_laws::NoMemory;
 use std::alloc::{AllocError, Global};
 
 /// The terms behind the first one.
+#[inline(never)]
 #[tactic(auto, using(crate::proofs::Extending::extending))]
 fn write_later<R: CoeffRing, M: Monomial>(
     out: &mut Vec<u8>,
