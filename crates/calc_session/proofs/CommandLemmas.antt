@@ -1,9 +1,13 @@
 -- Lemmas on what the lines of the body write.
-use Rattle.std.proofs.Common.{◌≡◌, ◌≢◌, ◌+◌, ◌*◌, ◌<◌, ◌≤◌, ◌&&◌, ℕ, zero, suc, Bool, true, false, cond, eqb, ltb, not, codes, position, Option, Some, None, length, take, drop, List, [], ◌∷◌, ◌++◌, Result, Ok, Err, IfErr, IsErrAnd, refl, sym, ap, subst, ◌∙◌, arith}
+use Rattle.std.proofs.Common.{◌≡◌, ◌≢◌, ◌+◌, ◌*◌, ◌<◌, ◌≤◌, ◌&&◌, ℕ, Bool, true, false, cond, eqb, ltb, not, codes, position, Option, Some, None, length, take, drop, List, [], ◌∷◌, ◌++◌, Result, Ok, Err, IfErr, IsErrAnd, refl, sym, ap, subst, ◌∙◌, arith}
 use Rattle.std.proofs.lemmas.Bool.{ltb-true, lt-ltb, eqb-true}
 use Rattle.sdmp_laws.specs.Order.{Order, degree}
-use Rattle.sdmp_laws.specs.Poly.{Term, norm, lm, terms, times}
-use Rattle.sdmp_laws.specs.Limits.{greatest_norm, IsDegreeOver, IsNormOver, HasRoom}
+use Rattle.sdmp_laws.specs.Poly.{Term, norm, lm, terms, times, IsPoly}
+use Rattle.sdmp_laws.specs.Limits.{greatest_norm, IsDegreeOver, IsNormOver}
+use Rattle.sdmp_laws.specs.declared.Mode.{Mode}
+use Rattle.sdmp_laws.specs.declared.Mode.TheVariants.{Exact, Remainder}
+use Rattle.division_laws.specs.Outcome.{Outcome, OverZero, ByNoUnit, OverBound, OverTerms, HasQuotient, HasNoQuotient, HasRemainder, IsOutcome, outcome}
+use Rattle.division_laws.proofs.OutcomeLemmas.{one_outcome}
 use Rattle.std.specs.Str.{bytes_eq}
 use Rattle.std.proofs.lemmas.List.Quantifiers.{position-Some}
 use Rattle.text_laws.specs.Canonical.{text}
@@ -17,10 +21,11 @@ use Rattle.calc_session.specs.Faults.{fault_line}
 use Rattle.calc_session.specs.Lines.{is_skipped}
 use Rattle.calc_session.specs.Body.{Form, Skip, Define, Show, Mul, Div, Rem, form_of, definition, definition_at, command, one, two, only_word, is_equals}
 use Rattle.calc_session.specs.Product.{is_degree_over, is_norm_over, product, IsProduct, IsRefused}
-use Rattle.calc_session.specs.Session.{Setting, Defined, define, known, ◌>>=◌, answer_of, answer_to, line_answer, reading_at, in_line, at_column, text_line, product_in, body_answers}
+use Rattle.calc_session.specs.Quotient.{division, IsUndivided}
+use Rattle.calc_session.specs.Session.{Setting, Defined, define, known, ◌>>=◌, answer_of, answer_to, line_answer, reading_at, in_line, at_column, text_line, product_in, division_in, outcome_lines, division_lines, body_answers}
 use Rattle.calc_session.specs.View.{Defines, setting_in}
 use Rattle.calc_session.specs.declared.fault.LineFault.{LineFault}
-use Rattle.calc_session.specs.declared.fault.LineFault.TheVariants.{DegreeBound, CoefficientBound, NotBuilt, NoMemory, BadName, ReservedName, VariableName}
+use Rattle.calc_session.specs.declared.fault.LineFault.TheVariants.{DegreeBound, CoefficientBound, TermBound, ZeroDivisor, NotUnit, NoMemory, BadName, ReservedName, VariableName}
 
 pub bind_ok : {A B : Type 0} (r : Result A LineFault) (a : A) (f : A → Result B LineFault) → r ≡ Ok a → r >>= f ≡ f a
 bind_ok r a f e = ap (λ x. x >>= f) e
@@ -95,6 +100,38 @@ pub if_err_weaker : {T E : Type 0} (r : Result T E) (P Q : E → Type 0) → ((e
 if_err_weaker (Ok x) P Q h p = tt
 if_err_weaker (Err e) P Q h p = h e p
 
+-- appended to nothing
+pub on_empty : (old new piece : List ℕ) → old ≡ [] → new ≡ old ++ piece → new ≡ piece
+on_empty old new piece e h = h ∙ ap (λ (o : List ℕ). o ++ piece) e
+
+-- ---- divisions
+module _ (setting : Setting) where
+  -- two polynomials in n variables modulo p, where these are those of the setting
+  pub record ArePolynomials (n p : ℕ) (f g : List Term) : Type 0 where
+    pub modulus : p ≡ setting.modulus
+    pub variables : length setting.variables ≡ n
+    pub dividend : IsPoly setting.order p n f
+    pub divisor : IsPoly setting.order p n g
+
+  -- the one answer of the division is the computed one
+  lines_of : (mode : Mode) (n p : ℕ) (f g : List Term) (o : Outcome) → ArePolynomials n p f g → IsOutcome (division mode setting.order n p f g) o
+      → division_lines setting mode f g ≡ outcome_lines setting o
+  unfolding division_lines
+  lines_of mode n p f g o k is =
+      ap (outcome_lines setting) (ap outcome same ∙ sym ((one_outcome (division mode setting.order n p f g) k.dividend k.divisor).1 o is))
+    where
+      same : division_in setting mode f g ≡ division mode setting.order n p f g
+      same = λ i. division mode setting.order (k.variables i) (sym k.modulus i) f g
+
+  pub lines_err : (mode : Mode) (n p : ℕ) (f g : List Term) (fault : LineFault) → ArePolynomials n p f g
+      → IsUndivided (division mode setting.order n p f g) fault → fault ≢ NoMemory → division_lines setting mode f g ≡ Err fault
+  lines_err mode n p f g ZeroDivisor k is other = lines_of mode n p f g OverZero k is
+  lines_err mode n p f g NotUnit k is other = lines_of mode n p f g ByNoUnit k is
+  lines_err mode n p f g CoefficientBound k is other = lines_of mode n p f g OverBound k is
+  lines_err mode n p f g TermBound k is other = lines_of mode n p f g OverTerms k is
+  lines_err mode n p f g NoMemory k is other = absurd (other refl)
+  lines_err mode n p f g _ k is other = absurd is
+
 -- ---- commands
 module _ (setting : Setting) (defined : Defined) where
   pub shown : (a piece : List ℕ) (f : List Term) → known (defined a) ≡ Ok f
@@ -132,19 +169,51 @@ module _ (setting : Setting) (defined : Defined) where
       → answer_of setting defined (Mul a b) ≡ Err fault
   mul_right a b f fault ea eb = bind_ok (known (defined a)) f (multiplied_by b) ea ∙ bind_err (known (defined b)) fault (multiplied f) eb
 
-  abbrev undivided : List ℕ → List Term → Result (List ℕ) LineFault
-  undivided b f = known (defined b) >>= (λ g. Err NotBuilt)
+  -- ---- commands that divide
+  module _ (mode : Mode) (a b : List ℕ) where
+    -- what the division of what the names stand for writes
+    abbrev divided : Result (List ℕ) LineFault
+    divided = do
+      f ← known (defined a)
+      g ← known (defined b)
+      division_lines setting mode f g
 
-  pub div_left : (a b : List ℕ) (fault : LineFault) → known (defined a) ≡ Err fault → answer_of setting defined (Div a b) ≡ Err fault
-  div_left a b fault e = bind_err (known (defined a)) fault (undivided b) e
+    abbrev divided_by : List Term → Result (List ℕ) LineFault
+    divided_by f = known (defined b) >>= division_lines setting mode f
 
-  pub div_right : (a b : List ℕ) (f : List Term) (fault : LineFault) → known (defined a) ≡ Ok f → known (defined b) ≡ Err fault
-      → answer_of setting defined (Div a b) ≡ Err fault
-  div_right a b f fault ea eb = bind_ok (known (defined a)) f (undivided b) ea ∙ bind_err (known (defined b)) fault (λ g. Err NotBuilt) eb
+    pub divided_left : (fault : LineFault) → known (defined a) ≡ Err fault → divided ≡ Err fault
+    divided_left fault e = bind_err (known (defined a)) fault divided_by e
 
-  pub div_both : (a b : List ℕ) (f g : List Term) → known (defined a) ≡ Ok f → known (defined b) ≡ Ok g
-      → answer_of setting defined (Div a b) ≡ Err NotBuilt
-  div_both a b f g ea eb = bind_ok (known (defined a)) f (undivided b) ea ∙ bind_ok (known (defined b)) g (λ g. Err NotBuilt) eb
+    pub divided_right : (f : List Term) (fault : LineFault) → known (defined a) ≡ Ok f → known (defined b) ≡ Err fault → divided ≡ Err fault
+    divided_right f fault ea eb = bind_ok (known (defined a)) f divided_by ea ∙ bind_err (known (defined b)) fault (division_lines setting mode f) eb
+
+    divided_both : (f g : List Term) → known (defined a) ≡ Ok f → known (defined b) ≡ Ok g → divided ≡ division_lines setting mode f g
+    divided_both f g ea eb = bind_ok (known (defined a)) f divided_by ea ∙ bind_ok (known (defined b)) g (division_lines setting mode f) eb
+
+    pub divided_err : (n p : ℕ) (f g : List Term) (fault : LineFault) → known (defined a) ≡ Ok f → known (defined b) ≡ Ok g → ArePolynomials setting n p f g
+        → IsUndivided (division mode setting.order n p f g) fault → fault ≢ NoMemory → divided ≡ Err fault
+    divided_err n p f g fault ea eb k is other = divided_both f g ea eb ∙ lines_err setting mode n p f g fault k is other
+
+    divided_ok : (n p : ℕ) (f g : List Term) (o : Outcome) → known (defined a) ≡ Ok f → known (defined b) ≡ Ok g → ArePolynomials setting n p f g
+        → IsOutcome (division mode setting.order n p f g) o → divided ≡ outcome_lines setting o
+    divided_ok n p f g o ea eb k is = divided_both f g ea eb ∙ lines_of setting mode n p f g o k is
+
+  module _ (n p : ℕ) (a b piece : List ℕ) where
+    pub div_ok : (f g q : List Term) → known (defined a) ≡ Ok f → known (defined b) ≡ Ok g → ArePolynomials setting n p f g
+        → IsOutcome (division Exact setting.order n p f g) (HasQuotient q) → piece ≡ text setting.variables q ++ 10 ∷ []
+        → answer_of setting defined (Div a b) ≡ Ok piece
+    unfolding text_line
+    div_ok f g q ea eb k is written = divided_ok Exact a b n p f g (HasQuotient q) ea eb k is ∙ ap (λ p. Ok p) (sym written)
+
+    pub div_none : (f g : List Term) → known (defined a) ≡ Ok f → known (defined b) ≡ Ok g → ArePolynomials setting n p f g
+        → IsOutcome (division Exact setting.order n p f g) HasNoQuotient → piece ≡ codes "none\n" → answer_of setting defined (Div a b) ≡ Ok piece
+    div_none f g ea eb k is written = divided_ok Exact a b n p f g HasNoQuotient ea eb k is ∙ ap (λ p. Ok p) (sym written)
+
+    pub rem_ok : (f g q r : List Term) → known (defined a) ≡ Ok f → known (defined b) ≡ Ok g → ArePolynomials setting n p f g
+        → IsOutcome (division Remainder setting.order n p f g) (HasRemainder q r)
+        → piece ≡ (text setting.variables q ++ 10 ∷ []) ++ (text setting.variables r ++ 10 ∷ []) → answer_of setting defined (Rem a b) ≡ Ok piece
+    unfolding text_line
+    rem_ok f g q r ea eb k is written = divided_ok Remainder a b n p f g (HasRemainder q r) ea eb k is ∙ ap (λ p. Ok p) (sym written)
 
   -- ---- a line, by what it says
   module _ (line : List ℕ) where

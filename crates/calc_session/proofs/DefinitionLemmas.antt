@@ -1,18 +1,26 @@
 -- Lemmas on names and what they stand for.
-use Rattle.std.proofs.Common.{◌≡◌, ◌<◌, ◌≤◌, ℕ, zero, suc, Bool, true, false, cond, List, [], ◌∷◌, ◌++◌, length, get_or, set, map, ltb, subst, Option, Some, None, Ok, Err, refl, sym, ap, ◌∙◌, arith}
-use Rattle.std.specs.List.{position_or_len, position}
+use Rattle.std.proofs.Common.{◌≡◌, ◌∷◌, [], ℕ, Bool, true, false, cond, List, map, Option, Some, None, Ok, Err, Ordering, Less, Equal, Greater, refl, sym, ap, ◌∙◌, arith}
+use Rattle.std.specs.Cmp.Lexicographic.{slice_cmp, nat_list_eq_equiv}
+use Rattle.std.specs.Global.{Vec}
+use Rattle.std.specs.List.{All}
+use Rattle.std.specs.Map.{lookup, values_of}
+use Rattle.std.specs.BTreeMap.{insert_entry, is_at}
+use Rattle.std.specs.Ordering.{is_eq, nat_cmp, match_ordering}
 use Rattle.std.specs.Str.{bytes_eq}
-use Rattle.std.proofs.lemmas.Bool.{ltb-true}
-use Rattle.std.proofs.lemmas.List.Sums.{fails_before_first, passes_at_first}
+use Rattle.std.specs.Option.{IfSome}
+use Rattle.std.proofs.lemmas.List.Elements.{All-cons, All-head, All-tail}
+use Rattle.std.proofs.lemmas.Map.Lookups.{exact_bytes}
+use Rattle.std.proofs.lemmas.Map.Text.{is_eq-slice_cmp}
+use Rattle.std.proofs.lemmas.Map.Views.{All-values-insert_entry, IfSome-lookup_from_All}
 use Rattle.std.proofs.lemmas.Slice.Eq.{bytes_eq-Decides}
 use Rattle.sdmp_laws.specs.Poly.{Term}
 use Rattle.sdmp_laws.specs.Canonical.{Polynomial}
-use Rattle.calc_session.specs.Session.{Defined, define, known}
-use Rattle.calc_session.specs.View.{found, held, plain, place_of, Becomes}
+use Rattle.calc_session.specs.Definitions.{Definition, definitions_of}
+use Rattle.calc_session.specs.Session.{define, known}
+use Rattle.calc_session.specs.View.{held, plain}
 use Rattle.calc_session.specs.declared.fault.LineFault.TheVariants.{UnknownName}
-use Rattle.calc_session.specs.declared.definitions.Definition.{Definition}
 
-pub same : (a b : List ℕ) → bytes_eq a b ≡ true → a ≡ b
+same : (a b : List ℕ) → bytes_eq a b ≡ true → a ≡ b
 same a b e = (bytes_eq-Decides a b).0 e
 
 equal : (a b : List ℕ) → a ≡ b → bytes_eq a b ≡ true
@@ -34,91 +42,17 @@ twice : {X : Type 0} (b : Bool) (p x y : X) → cond b p y ≡ cond b p (cond b 
 twice true p x y = refl
 twice false p x y = refl
 
-module _ {P : Type 0} where
-  abbrev is : List ℕ → Definition P → Bool
-  is name d = bytes_eq d.name.items name
+-- ---- a name in the map
+abbrev pub name_cmp : Vec ℕ → Vec ℕ → Ordering
+name_cmp a b = slice_cmp nat_cmp a.items b.items
 
-  -- i is the place of the name's first definition
-  pub record IsPlace (ds : List (Definition P)) (name : List ℕ) (i : ℕ) : Type 0 where
-    pub within : i < length ds
-    pub before : (k : ℕ) (e : Definition P) → k < i → is name (get_or ds k e) ≡ false
-    pub there : (e : Definition P) → is name (get_or ds i e) ≡ true
+abbrev pub is_name_at : List ℕ → Vec ℕ → Bool
+is_name_at name = is_at (λ (k : Vec ℕ). slice_cmp nat_cmp name k.items)
 
-  pub record HasNone (ds : List (Definition P)) (name : List ℕ) : Type 0 where
-    pub none : (k : ℕ) (e : Definition P) → k < length ds → is name (get_or ds k e) ≡ false
+finds : (name : List ℕ) (k : Vec ℕ) → bytes_eq k.items name ≡ is_name_at name k
+finds name k = nat_list_eq_equiv.symm k.items name ∙ sym (is_eq-slice_cmp name k.items)
 
-  -- what `position` says
-  place_where : (ds : List (Definition P)) (name : List ℕ) (i : ℕ) (b : Bool) → ltb (position_or_len (is name) ds) (length ds) ≡ b
-      → Some i ≡ cond b (Some (position_or_len (is name) ds)) None → IsPlace ds name i
-  place_where ds name i true within e =
-      let at : i ≡ position_or_len (is name) ds = cc in
-      let inside : position_or_len (is name) ds < length ds = ltb-true (position_or_len (is name) ds) (length ds) within in
-      record {
-        within = subst (λ (k : ℕ). k < length ds) (sym at) inside;
-        before = λ k e below. fails_before_first (is name) ds k e (subst (λ (n : ℕ). k < n) at below);
-        there = λ e. ap (λ (k : ℕ). is name (get_or ds k e)) at ∙ passes_at_first (is name) ds e inside;
-      }
-  place_where ds name i false within e = absurd cc
-
-  pub place_is : (ds : List (Definition P)) (name : List ℕ) (i : ℕ) → Some i ≡ place_of ds name → IsPlace ds name i
-  place_is ds name i e = place_where ds name i (ltb (position_or_len (is name) ds) (length ds)) refl e
-
-  none_where : (ds : List (Definition P)) (name : List ℕ) (b : Bool) → ltb (position_or_len (is name) ds) (length ds) ≡ b
-      → cond b (Some (position_or_len (is name) ds)) None ≡ None → HasNone ds name
-  none_where ds name true within e = absurd cc
-  none_where ds name false within e =
-      let beyond : length ds ≤ position_or_len (is name) ds = grind (arith, within) in
-      record { none = λ k e below. fails_before_first (is name) ds k e (omega (arith, below, beyond)) }
-
-  pub none_is : (ds : List (Definition P)) (name : List ℕ) → place_of ds name ≡ None → HasNone ds name
-  none_is ds name e = none_where ds name (ltb (position_or_len (is name) ds) (length ds)) refl e
-
-  -- ---- by the place
-  rest_place : (d : Definition P) (ds : List (Definition P)) (name : List ℕ) (i : ℕ) → IsPlace (d ∷ ds) name (suc i) → IsPlace ds name i
-  rest_place d ds name i h = record {
-    within = omega (arith, h.within);
-    before = λ k e below. h.before (suc k) e (omega (arith, below));
-    there = h.there;
-  }
-
-  rest_none : (d : Definition P) (ds : List (Definition P)) (name : List ℕ) → HasNone (d ∷ ds) name → HasNone ds name
-  rest_none d ds name h = record { none = λ k e below. h.none (suc k) e (omega (arith, below)) }
-
-  skips : (d : Definition P) (ds : List (Definition P)) (name : List ℕ) → is name d ≡ false → found (d ∷ ds) name ≡ found ds name
-  skips d ds name e = ap (λ (b : Bool). cond b (Some d.poly) (found ds name)) e
-
-  pub found_there : (ds : List (Definition P)) (name : List ℕ) (i : ℕ) (e : Definition P) → IsPlace ds name i → found ds name ≡ Some (get_or ds i e).poly
-  found_there [] name i e h = absurd (omega (arith, h.within))
-  found_there (d ∷ ds) name zero e h = ap (λ (b : Bool). cond b (Some d.poly) (found ds name)) (h.there e)
-  found_there (d ∷ ds) name (suc i) e h =
-      skips d ds name (h.before 0 e (omega arith)) ∙ found_there ds name i e (rest_place d ds name i h)
-
-  pub found_none : (ds : List (Definition P)) (name : List ℕ) → HasNone ds name → found ds name ≡ None
-  found_none [] name h = refl
-  found_none (d ∷ ds) name h = skips d ds name (h.none 0 d (omega arith)) ∙ found_none ds name (rest_none d ds name h)
-
-  -- a definition of this name stands first
-  pub replaced : (ds : List (Definition P)) (name : List ℕ) (i : ℕ) (d e : Definition P) → IsPlace ds name i → d.name.items ≡ name
-      → (other : List ℕ) → found (set ds i d) other ≡ cond (bytes_eq name other) (Some d.poly) (found ds other)
-  replaced [] name i d e h named other = absurd (omega (arith, h.within))
-  replaced (c ∷ ds) name zero d e h named other =
-      ap (λ (n : List ℕ). cond (bytes_eq n other) (Some d.poly) (found ds other)) named
-      ∙ twice (bytes_eq name other) (Some d.poly) (Some c.poly) (found ds other)
-      ∙ ap (λ (n : List ℕ). cond (bytes_eq name other) (Some d.poly) (cond (bytes_eq n other) (Some c.poly) (found ds other))) (sym (same c.name.items name (h.there e)))
-  replaced (c ∷ ds) name (suc i) d e h named other =
-      ap (λ (o : Option P). cond (bytes_eq c.name.items other) (Some c.poly) o) (replaced ds name i d e (rest_place c ds name i h) named other)
-      ∙ swap c.name.items name other (Some c.poly) (Some d.poly) (found ds other) (h.before 0 e (omega arith))
-
-  -- or it stands behind the others
-  pub added : (ds : List (Definition P)) (name : List ℕ) (d : Definition P) → HasNone ds name → d.name.items ≡ name
-      → (other : List ℕ) → found (ds ++ d ∷ []) other ≡ cond (bytes_eq name other) (Some d.poly) (found ds other)
-  added [] name d h named other = ap (λ (n : List ℕ). cond (bytes_eq n other) (Some d.poly) None) named
-  added (c ∷ ds) name d h named other =
-      ap (λ (o : Option P). cond (bytes_eq c.name.items other) (Some c.poly) o) (added ds name d (rest_none c ds name h) named other)
-      ∙ swap c.name.items name other (Some c.poly) (Some d.poly) (found ds other) (h.none 0 c (omega arith))
-
--- ---- what contracts see
-abbrev pub list_in : Option Polynomial → Option (List Term)
+abbrev list_in : Option Polynomial → Option (List Term)
 list_in None = None
 list_in (Some p) = Some p.list
 
@@ -126,28 +60,63 @@ choose : (b : Bool) (p : Polynomial) (o : Option Polynomial) → cond b (Some p.
 choose true p o = refl
 choose false p o = refl
 
-pub held_is : (ds : List (Definition Polynomial)) (name : List ℕ) → held (map plain ds) name ≡ list_in (found ds name)
+held_is : (es : List (Vec ℕ × Polynomial)) (name : List ℕ) → held (map plain (definitions_of es)) name ≡ list_in (lookup (is_name_at name) es)
 held_is [] name = refl
-held_is (d ∷ ds) name =
-    ap (λ (o : Option (List Term)). cond (bytes_eq d.name.items name) (Some d.poly.list) o) (held_is ds name) ∙ choose (bytes_eq d.name.items name) d.poly (found ds name)
+held_is (e ∷ es) name =
+    ap (λ (o : Option (List Term)). cond (bytes_eq e.0.items name) (Some e.1.list) o) (held_is es name)
+    ∙ choose (bytes_eq e.0.items name) e.1 (lookup (is_name_at name) es)
+    ∙ ap (λ (b : Bool). list_in (cond b (Some e.1) (lookup (is_name_at name) es))) (finds name e.0)
 
--- the definitions as functions
-pub becomes_is : (old now : List (Definition Polynomial)) (name : List ℕ) (p : Polynomial) → Becomes old now name p
-    → held (map plain now) ≡ define name p.list (held (map plain old))
-becomes_is old now name p h =
-    let at : (other : List ℕ) → held (map plain now) other ≡ define name p.list (held (map plain old)) other =
-    λ other. held_is now other ∙ ap list_in (h other) ∙ sym (choose (bytes_eq name other) p (found old other))
-    ∙ ap (λ (o : Option (List Term)). cond (bytes_eq name other) (Some p.list) o) (sym (held_is old other)) in
-    λ i other. at other i
+pub known_found : (es : List (Vec ℕ × Polynomial)) (name : List ℕ) (p : Polynomial) → lookup (is_name_at name) es ≡ Some p
+    → known (held (map plain (definitions_of es)) name) ≡ Ok p.list
+known_found es name p e = ap known (held_is es name ∙ ap list_in e)
 
-pub held_found : (ds : List (Definition Polynomial)) (name : List ℕ) (p : Polynomial) → found ds name ≡ Some p → held (map plain ds) name ≡ Some p.list
-held_found ds name p e = held_is ds name ∙ ap list_in e
+pub known_none : (es : List (Vec ℕ × Polynomial)) (name : List ℕ) → lookup (is_name_at name) es ≡ None
+    → known (held (map plain (definitions_of es)) name) ≡ Err UnknownName
+known_none es name e = ap known (held_is es name ∙ ap list_in e)
 
-pub held_none : (ds : List (Definition Polynomial)) (name : List ℕ) → found ds name ≡ None → held (map plain ds) name ≡ None
-held_none ds name e = held_is ds name ∙ ap list_in e
+-- ---- a name that is defined
+inserted_where : (e : Vec ℕ × Polynomial) (es : List (Vec ℕ × Polynomial)) (k : Vec ℕ) (v : Polynomial) (other : List ℕ) (o : Ordering) → name_cmp k e.0 ≡ o
+    → held (map plain (definitions_of (insert_entry name_cmp es k v))) other ≡ define k.items v.list (held (map plain (definitions_of es))) other
+    → held (map plain (definitions_of (match_ordering o ((k, v) ∷ e ∷ es) ((e.0, v) ∷ es) (e ∷ insert_entry name_cmp es k v)))) other
+    ≡ define k.items v.list (held (map plain (definitions_of (e ∷ es)))) other
+inserted_where e es k v other Less compared rest = refl
+inserted_where e es k v other Equal compared rest =
+    let same : k.items ≡ e.0.items = exact_bytes k.items e.0.items compared in
+    ap (λ (n : List ℕ). cond (bytes_eq n other) (Some v.list) (held (map plain (definitions_of es)) other)) (sym same)
+    ∙ twice (bytes_eq k.items other) (Some v.list) (Some e.1.list) (held (map plain (definitions_of es)) other)
+    ∙ ap (λ (n : List ℕ). cond (bytes_eq k.items other) (Some v.list) (cond (bytes_eq n other) (Some e.1.list) (held (map plain (definitions_of es)) other))) same
+inserted_where e es k v other Greater compared rest =
+    let apart : bytes_eq e.0.items k.items ≡ false = finds k.items e.0 ∙ ap is_eq compared in
+    ap (λ (o : Option (List Term)). cond (bytes_eq e.0.items other) (Some e.1.list) o) rest
+    ∙ swap e.0.items k.items other (Some e.1.list) (Some v.list) (held (map plain (definitions_of es)) other) apart
 
-pub known_found : (ds : List (Definition Polynomial)) (name : List ℕ) (p : Polynomial) → found ds name ≡ Some p → known (held (map plain ds) name) ≡ Ok p.list
-known_found ds name p e = ap known (held_found ds name p e)
+inserted : (es : List (Vec ℕ × Polynomial)) (k : Vec ℕ) (v : Polynomial) (other : List ℕ)
+    → held (map plain (definitions_of (insert_entry name_cmp es k v))) other ≡ define k.items v.list (held (map plain (definitions_of es))) other
+inserted [] k v other = refl
+inserted (e ∷ es) k v other = inserted_where e es k v other (name_cmp k e.0) refl (inserted es k v other)
 
-pub known_none : (ds : List (Definition Polynomial)) (name : List ℕ) → found ds name ≡ None → known (held (map plain ds) name) ≡ Err UnknownName
-known_none ds name e = ap known (held_none ds name e)
+pub defines : (es : List (Vec ℕ × Polynomial)) (k : Vec ℕ) (v : Polynomial)
+    → held (map plain (definitions_of (insert_entry name_cmp es k v))) ≡ define k.items v.list (held (map plain (definitions_of es)))
+defines es k v = λ i other. inserted es k v other i
+
+-- ---- what holds of each polynomial
+module _ (Q : Polynomial → Type 0) where
+  to_values : (es : List (Vec ℕ × Polynomial)) → All (λ d. Q d.poly) (definitions_of es) → All Q (values_of es)
+  to_values [] h = λ k d below. absurd (omega (arith, below))
+  to_values (e ∷ es) h =
+      All-cons Q e.1 (values_of es) (All-head (λ (d : Definition). Q d.poly) (record { name = e.0.items; poly = e.1 }) (definitions_of es) h)
+      (to_values es (All-tail (λ (d : Definition). Q d.poly) (record { name = e.0.items; poly = e.1 }) (definitions_of es) h))
+
+  from_values : (es : List (Vec ℕ × Polynomial)) → All Q (values_of es) → All (λ d. Q d.poly) (definitions_of es)
+  from_values [] h = λ k d below. absurd (omega (arith, below))
+  from_values (e ∷ es) h =
+      All-cons (λ (d : Definition). Q d.poly) (record { name = e.0.items; poly = e.1 }) (definitions_of es) (All-head Q e.1 (values_of es) h)
+      (from_values es (All-tail Q e.1 (values_of es) h))
+
+  pub all_inserted : (es : List (Vec ℕ × Polynomial)) (k : Vec ℕ) (v : Polynomial) → Q v → All (λ d. Q d.poly) (definitions_of es)
+      → All (λ d. Q d.poly) (definitions_of (insert_entry name_cmp es k v))
+  all_inserted es k v here h = from_values (insert_entry name_cmp es k v) (All-values-insert_entry name_cmp k v Q es (to_values es h) here)
+
+  pub all_found : (es : List (Vec ℕ × Polynomial)) (name : List ℕ) → All (λ d. Q d.poly) (definitions_of es) → IfSome (lookup (is_name_at name) es) Q
+  all_found es name h = IfSome-lookup_from_All Q (is_name_at name) es (to_values es h)

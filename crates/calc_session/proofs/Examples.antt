@@ -1,5 +1,5 @@
 -- Sessions with faults, and what they answer.
-use Rattle.std.proofs.Common.{◌≡◌, ℕ, List, [], ◌∷◌, ◌++◌, codes, refl}
+use Rattle.std.proofs.Common.{◌≡◌, ℕ, List, [], ◌++◌, codes, refl}
 use Rattle.std.specs.Fmt.{digits}
 use Rattle.text_laws.specs.Bytes.{class_of}
 use Rattle.text_laws.specs.Reading.{denotes}

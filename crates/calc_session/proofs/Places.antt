@@ -1,11 +1,11 @@
 -- The place of a fault of a text stands in the text, or at its end.
-use Rattle.std.proofs.Common.{◌≡◌, ◌≢◌, ◌+◌, ◌≤◌, ℕ, zero, suc, ltb, Bool, true, false, cond, List, [], ◌∷◌, length, Option, Some, None, Result, Ok, Err, refl, sym, ap, subst, ◌∙◌, arith}
+use Rattle.std.proofs.Common.{◌≡◌, ◌≢◌, ◌+◌, ◌≤◌, ℕ, zero, suc, ltb, Bool, true, false, cond, List, [], ◌∷◌, length, Option, Some, None, Result, Ok, Err, refl, sym, subst, arith}
 use Rattle.sdmp_laws.specs.Order.{Order}
 use Rattle.sdmp_laws.specs.Poly.{Term}
 use Rattle.text_laws.specs.Bytes.{class_of}
 use Rattle.text_laws.specs.Automaton.{next, is_whole, is_live, fault_from, fault_place, start}
 use Rattle.text_laws.specs.Summands.{Written, Summand, or_else, is_known, unknown_in, unknown, above_degree, sum_above, one_above, above_coefficient, written_degree, size_of, refused, verdict, written_terms}
-use Rattle.text_laws.specs.Reading.{Token, is_word, is_blank, is_sign, is_letter, tokens, word_front, before_sign, powers_in, exponent_before, place_of, summand_in, signed_in, summands_in, judged, denotes, summed, reading}
+use Rattle.text_laws.specs.Reading.{Token, is_word, is_blank, is_sign, is_letter, tokens, before_sign, powers_in, place_of, signed_in, summands_in, judged, denotes, summed, reading}
 use Rattle.text_laws.specs.declared.State.{State}
 use Rattle.text_laws.specs.declared.TextFault.{TextFault}
 use Rattle.text_laws.specs.declared.TextFault.TheVariants.{Syntax, UnknownName, DegreeBound, CoefficientBound, NoMemory}

@@ -1,5 +1,5 @@
 -- Lemmas on the lines before the body.
-use Rattle.std.proofs.Common.{◌≡◌, ◌+◌, ℕ, List, [], ◌∷◌, length, Result, Ok, Err, refl, sym, ap, ◌∙◌}
+use Rattle.std.proofs.Common.{◌≡◌, ◌+◌, ℕ, List, [], ◌∷◌, Result, Ok, Err, refl, sym, ap, ◌∙◌}
 use Rattle.poly_text.specs.Words.{words_of}
 use Rattle.calc_session.specs.Answers.{Answers, refused}
 use Rattle.calc_session.specs.Faults.{fault_line}

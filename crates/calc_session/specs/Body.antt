@@ -1,5 +1,5 @@
 -- The lines of the body.
-use Rattle.std.specs.Prelude.{◌≡◌, ◌==◌, ◌||◌, ◌&&◌, ◌+◌, ℕ, Bool, true, false, not, List, [], ◌∷◌, ◌++◌, length, codes, if◌then◌else◌, Result, Ok, Err, Option, Some, None, take, position}
+use Rattle.std.specs.Prelude.{◌≡◌, ◌==◌, ◌+◌, ℕ, Bool, not, List, [], ◌∷◌, codes, if◌then◌else◌, Result, Ok, Err, Option, Some, None, take, position}
 use Rattle.std.specs.Str.{bytes_eq}
 use Rattle.calc_session.specs.Lines.{is_skipped}
 use Rattle.poly_text.specs.Words.{words_of}

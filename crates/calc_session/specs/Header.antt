@@ -1,5 +1,5 @@
 -- The header lines, by their words.
-use Rattle.std.specs.Prelude.{◌==◌, ◌≤◌, ◌||◌, ◌&&◌, ◌+◌, ◌*◌, ◌-◌, ℕ, Bool, true, false, not, List, [], ◌∷◌, ◌++◌, length, nat_le, codes, fold, if◌then◌else◌, Result, Ok, Err}
+use Rattle.std.specs.Prelude.{◌≤◌, ◌&&◌, ◌+◌, ◌*◌, ◌-◌, ℕ, not, List, [], ◌∷◌, nat_le, codes, fold, if◌then◌else◌, Result, Ok, Err}
 use Rattle.std.specs.List.{list_all}
 use Rattle.std.specs.Str.{bytes_eq}
 use Rattle.poly_text.specs.Names.{is_digit, names_of}

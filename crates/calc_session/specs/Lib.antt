@@ -4,7 +4,9 @@ pub mod Faults
 pub mod Header
 pub mod Body
 pub mod Product
+pub mod Quotient
 pub mod Session
+pub mod Definitions
 pub mod View
 pub mod Says
 pub mod Demo

@@ -1,8 +1,12 @@
 -- What a session answers.
-use Rattle.std.specs.Prelude.{◌+◌, ℕ, List, [], ◌∷◌, ◌++◌, length, drop, if◌then◌else◌, Option, Some, None, Result, Ok, Err}
+use Rattle.std.specs.Prelude.{◌+◌, ℕ, List, [], ◌∷◌, ◌++◌, length, drop, codes, if◌then◌else◌, Option, Some, None, Result, Ok, Err}
 use Rattle.std.specs.Str.{bytes_eq}
 use Rattle.sdmp_laws.specs.Order.{Order, Grlex}
 use Rattle.sdmp_laws.specs.Poly.{Term}
+use Rattle.sdmp_laws.specs.Division.{Division}
+use Rattle.sdmp_laws.specs.declared.Mode.{Mode}
+use Rattle.sdmp_laws.specs.declared.Mode.TheVariants.{Exact, Remainder}
+use Rattle.division_laws.specs.Outcome.{Outcome, OverZero, ByNoUnit, OverBound, OverTerms, HasQuotient, HasNoQuotient, HasRemainder, outcome}
 use Rattle.packed_monomial.specs.Packing.{limit_of}
 use Rattle.text_laws.specs.Reading.{reading}
 use Rattle.text_laws.specs.Canonical.{text}
@@ -11,12 +15,12 @@ use Rattle.text_laws.specs.declared.TextFault.TheVariants as text_fault
 use Rattle.poly_text.specs.Words.{words_of}
 use Rattle.calc_session.specs.Lines.{lines, effective}
 use Rattle.calc_session.specs.Header.{vars_of, ring_of, characteristic_of}
-use Rattle.calc_session.specs.Body.{Form, Skip, Define, Show, Mul, Div, Rem, form_of}
+use Rattle.calc_session.specs.Body.{Form, Define, Show, Mul, Div, Rem, form_of}
 use Rattle.calc_session.specs.Product.{product}
 use Rattle.calc_session.specs.Faults.{fault_line}
 use Rattle.calc_session.specs.Answers.{Answers, before, done, refused}
 use Rattle.calc_session.specs.declared.fault.LineFault.{LineFault}
-use Rattle.calc_session.specs.declared.fault.LineFault.TheVariants.{VarsExpected, RingExpected, UnknownName, Syntax, UnknownNameAt, DegreeBoundAt, CoefficientBoundAt, NotBuilt, NoMemory}
+use Rattle.calc_session.specs.declared.fault.LineFault.TheVariants.{VarsExpected, RingExpected, UnknownName, Syntax, UnknownNameAt, DegreeBoundAt, CoefficientBoundAt, CoefficientBound, TermBound, ZeroDivisor, NotUnit, NoMemory}
 
 -- the order of the monomials, the variables, the greatest degree of a monomial, and the modulus, 0 for the integers
 pub record Setting : Type 0 where
@@ -67,6 +71,23 @@ text_line setting f = text setting.variables f ++ 10 ∷ []
 unfoldable pub product_in : Setting → List Term → List Term → Result (List Term) LineFault
 product_in setting f g = product setting.order setting.limit setting.modulus f g
 
+abbrev pub division_in : Setting → Mode → List Term → List Term → Division
+division_in setting mode f g = record { mode = mode; ord = setting.order; p = setting.modulus; n = length setting.variables; f = f; g = g }
+
+-- what a division writes that has this answer: the quotient, or that there is none, or the quotient and then the remainder
+abbrev pub outcome_lines : Setting → Outcome → Result (List ℕ) LineFault
+outcome_lines setting OverZero = Err ZeroDivisor
+outcome_lines setting ByNoUnit = Err NotUnit
+outcome_lines setting OverBound = Err CoefficientBound
+outcome_lines setting OverTerms = Err TermBound
+outcome_lines setting (HasQuotient q) = Ok (text_line setting q)
+outcome_lines setting HasNoQuotient = Ok (codes "none\n")
+outcome_lines setting (HasRemainder q r) = Ok (text_line setting q ++ text_line setting r)
+
+-- what the division of f by g writes
+unfoldable pub division_lines : Setting → Mode → List Term → List Term → Result (List ℕ) LineFault
+division_lines setting mode f g = outcome_lines setting (outcome (division_in setting mode f g))
+
 -- what a line writes
 abbrev pub answer_of : Setting → Defined → Form → Result (List ℕ) LineFault
 answer_of setting defined (Show a) = do
@@ -80,11 +101,11 @@ answer_of setting defined (Mul a b) = do
 answer_of setting defined (Div a b) = do
   f ← known (defined a)
   g ← known (defined b)
-  Err NotBuilt
+  division_lines setting Exact f g
 answer_of setting defined (Rem a b) = do
   f ← known (defined a)
   g ← known (defined b)
-  Err NotBuilt
+  division_lines setting Remainder f g
 answer_of setting defined _ = Ok []
 
 -- what a line makes of the definitions, and what it writes

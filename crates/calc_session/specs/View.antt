@@ -1,14 +1,13 @@
 -- What contracts see of a session.
-use Rattle.std.specs.Prelude.{ℕ, List, [], ◌∷◌, ◌≡◌, Option, Some, None, Ok, if◌then◌else◌, position}
+use Rattle.std.specs.Prelude.{ℕ, List, [], ◌∷◌, ◌≡◌, Some, None, Ok, if◌then◌else◌}
 use Rattle.std.specs.Str.{bytes_eq}
 use Rattle.sdmp_laws.specs.Order.{Order}
 use Rattle.sdmp_laws.specs.Poly.{Term}
-use Rattle.sdmp_laws.specs.Canonical.{Polynomial}
 use Rattle.text_laws.specs.declared.TextFault.{TextFault}
 use Rattle.text_laws.specs.declared.TextFault.TheVariants.{Syntax, UnknownName, DegreeBound, CoefficientBound, NoMemory}
 use Rattle.calc_session.specs.Answers.{Answers}
 use Rattle.calc_session.specs.Session.{Setting, Defined, body_answers, reading_at, define}
-use Rattle.calc_session.specs.declared.definitions.Definition.{Definition}
+use Rattle.calc_session.specs.Definitions.{Definition}
 
 -- the setting, and the names with the terms of their polynomials
 pub record Body : Type 0 where
@@ -24,17 +23,9 @@ held (d ∷ ds) name = if bytes_eq d.0 name then Some d.1 else held ds name
 abbrev pub answers_of : Body → ℕ → List (List ℕ) → Answers
 answers_of body number lines = body_answers body.setting (held body.defined) number lines
 
--- what the first definition of the name holds
-abbrev pub found : {P : Type 0} → List (Definition P) → List ℕ → Option P
-found [] name = None
-found (d ∷ ds) name = if bytes_eq d.name.items name then Some d.poly else found ds name
-
 -- a definition as plain data
-abbrev pub plain : Definition Polynomial → List ℕ × List Term
-plain d = (d.name.items, d.poly.list)
-
-abbrev pub place_of : {P : Type 0} → List (Definition P) → List ℕ → Option ℕ
-place_of ds name = position (λ d. bytes_eq d.name.items name) ds
+abbrev pub plain : Definition → List ℕ × List Term
+plain d = (d.name, d.poly.list)
 
 -- the place that a fault tells
 abbrev pub place_in : TextFault → ℕ
@@ -43,10 +34,6 @@ place_in (UnknownName at) = at
 place_in (DegreeBound at) = at
 place_in (CoefficientBound at) = at
 place_in NoMemory = 0
-
--- the name holds this from now on, and all other names hold what they held
-abbrev pub Becomes : {P : Type 0} → List (Definition P) → List (Definition P) → List ℕ → P → Type 0
-Becomes {P} old now name p = (other : List ℕ) → found now other ≡ (if bytes_eq name other then Some p else found old other)
 
 abbrev pub setting_in : Order → List (List ℕ) → ℕ → ℕ → Setting
 setting_in ord names lim p = record { order = ord; variables = names; limit = lim; modulus = p }

@@ -1,13 +1,14 @@
 //! What the lines of the body do.
-ghost use Rattle.std.specs.Prelude.{◌≡◌, ◌≢◌, ◌+◌, ◌<◌, ◌≤◌, ◌∷◌, ◌++◌, [], ℕ, List, length, map, All, Ok, Err, IfErr, OnOk, OnErr};
+ghost use Rattle.std.specs.Prelude.{◌≡◌, ◌≢◌, ◌+◌, ◌<◌, ◌≤◌, ◌∷◌, ◌++◌, [], ℕ, List, length, map, codes, All, Ok, Err, IfErr, OnOk, OnErr};
+ghost use Rattle.sdmp_laws.specs.Poly.{IsPoly};
 ghost use Rattle.text_laws.specs.Canonical.{text};
-ghost use Rattle.calc_session.specs.Body.{Show, Mul, Div};
+ghost use Rattle.calc_session.specs.Body.{Show, Mul, Div, Rem};
 ghost use Rattle.calc_session.specs.Session.{answer_to, Setting, answer_of, at_column, reading_at};
 ghost use Rattle.calc_session.specs.View.{held, plain, place_in, setting_in, Defines};
 
-use crate::arithmetic::Arithmetic;
+use crate::arithmetic::{Arithmetic, Divided};
 use crate::body::{Line, parse_line};
-use crate::definitions::{Definition, define, look_up};
+use crate::definitions::Definitions;
 use crate::fault::LineFault;
 use canonical_terms::Poly;
 use coeff_ring::CoeffRing;
@@ -22,22 +23,22 @@ pub(crate) fn answer_line<R: CoeffRing, M: Monomial, A: Arithmetic<R, M>>(
     arithmetic: &A,
     ring: R,
     names: &Names,
-    defined: &mut Vec<Definition<Poly<R, M>>>,
+    defined: &mut Definitions<R, M>,
     line: &[u8],
     out: &mut Vec<u8>,
 ) -> Result<(), LineFault>
     requires vars { length names.now ≡ M.VARS }
-    requires modulus { All (λ d. d.poly.modulus ≡ R.characteristic ring) defined.old.items }
+    requires modulus { All (λ d. d.poly.modulus ≡ R.characteristic ring) defined.old }
     requires empty { out.old.items ≡ [] }
     ensures answered { OnOk
         result
-        (answer_to (setting_in M.order names.now M.LIM (R.characteristic ring)) (held (map plain defined.old.items)) line.now
-        ≡ Ok (held (map plain defined.new.items), out.new.items)) }
+        (answer_to (setting_in M.order names.now M.LIM (R.characteristic ring)) (held (map plain defined.old)) line.now
+        ≡ Ok (held (map plain defined.new), out.new.items)) }
     ensures refused { IfErr
         result
-        (λ fault. fault ≢ LineFault.NoMemory → answer_to (setting_in M.order names.now M.LIM (R.characteristic ring)) (held (map plain defined.old.items)) line.now ≡ Err fault) }
+        (λ fault. fault ≢ LineFault.NoMemory → answer_to (setting_in M.order names.now M.LIM (R.characteristic ring)) (held (map plain defined.old)) line.now ≡ Err fault) }
     ensures same { OnErr result (out.new.items ≡ []) }
-    ensures modulus { All (λ d. d.poly.modulus ≡ R.characteristic ring) defined.new.items }
+    ensures modulus { All (λ d. d.poly.modulus ≡ R.characteristic ring) defined.new }
 {
     match parse_line(line, names)? {
         Line::Skip => Ok(()),
@@ -46,8 +47,8 @@ pub(crate) fn answer_line<R: CoeffRing, M: Monomial, A: Arithmetic<R, M>>(
         }
         Line::Show { a } => show(alloc, ring, names, defined, a, out),
         Line::Mul { a, b } => multiply(alloc, arithmetic, ring, names, defined, a, b, out),
-        Line::Div { a, b } => Err(divide(defined, a, b)),
-        Line::Rem { a, b } => Err(divide(defined, a, b)),
+        Line::Div { a, b } => divide(alloc, arithmetic, ring, names, defined, a, b, out),
+        Line::Rem { a, b } => remainder(alloc, arithmetic, ring, names, defined, a, b, out),
     }
 }
 
@@ -59,22 +60,22 @@ fn define_text<R: CoeffRing, M: Monomial>(
     name: &[u8],
     start: usize,
     line: &[u8],
-    defined: &mut Vec<Definition<Poly<R, M>>>,
+    defined: &mut Definitions<R, M>,
 ) -> Result<(), LineFault>
     requires vars { length names.now ≡ M.VARS }
     requires within { start ≤ length line.now }
-    requires modulus { All (λ d. d.poly.modulus ≡ R.characteristic ring) defined.old.items }
+    requires modulus { All (λ d. d.poly.modulus ≡ R.characteristic ring) defined.old }
     ensures ok { OnOk
         result
-        (Defines (setting_in M.order names.now M.LIM (R.characteristic ring)) start line.now name.now (held (map plain defined.old.items)) (held (map plain defined.new.items))) }
+        (Defines (setting_in M.order names.now M.LIM (R.characteristic ring)) start line.now name.now (held (map plain defined.old)) (held (map plain defined.new))) }
     ensures refused { IfErr
         result
         (λ fault. fault ≢ LineFault.NoMemory → reading_at (setting_in M.order names.now M.LIM (R.characteristic ring)) start line.now ≡ Err fault) }
-    ensures modulus { All (λ d. d.poly.modulus ≡ R.characteristic ring) defined.new.items }
+    ensures modulus { All (λ d. d.poly.modulus ≡ R.characteristic ring) defined.new }
 {
     match read_poly(alloc, ring, names, &line[start..]) {
         Ok(poly) => {
-            if define(alloc, name, poly, defined).is_err() {
+            if defined.define(alloc, name, poly).is_err() {
                 return Err(LineFault::NoMemory);
             }
             Ok(())
@@ -111,7 +112,7 @@ fn show<R: CoeffRing, M: Monomial>(
     alloc: Global,
     ring: R,
     names: &Names,
-    defined: &[Definition<Poly<R, M>>],
+    defined: &Definitions<R, M>,
     a: &[u8],
     out: &mut Vec<u8>,
 ) -> Result<(), LineFault>
@@ -125,7 +126,7 @@ fn show<R: CoeffRing, M: Monomial>(
         (λ fault. fault ≢ LineFault.NoMemory → answer_of (setting_in M.order names.now M.LIM (R.characteristic ring)) (held (map plain defined.now)) (Show a.now) ≡ Err fault) }
     ensures same { OnErr result (out.new.items ≡ []) }
 {
-    match look_up(defined, a) {
+    match defined.look_up(a) {
         Ok(f) => write_line(alloc, f, names, out),
         Err(fault) => Err(fault),
     }
@@ -137,7 +138,7 @@ fn multiply<R: CoeffRing, M: Monomial, A: Arithmetic<R, M>>(
     arithmetic: &A,
     ring: R,
     names: &Names,
-    defined: &[Definition<Poly<R, M>>],
+    defined: &Definitions<R, M>,
     a: &[u8],
     b: &[u8],
     out: &mut Vec<u8>,
@@ -153,31 +154,82 @@ fn multiply<R: CoeffRing, M: Monomial, A: Arithmetic<R, M>>(
         (λ fault. fault ≢ LineFault.NoMemory → answer_of (setting_in M.order names.now M.LIM (R.characteristic ring)) (held (map plain defined.now)) (Mul a.now b.now) ≡ Err fault) }
     ensures same { OnErr result (out.new.items ≡ []) }
 {
-    let f = look_up(defined, a)?;
-    let g = look_up(defined, b)?;
+    let f = defined.look_up(a)?;
+    let g = defined.look_up(b)?;
     let product = arithmetic.product(alloc, f, g)?;
     write_line(alloc, &product, names, out)
 }
 
-// refuses a division, since there is none yet
-#[tactic(auto, using(crate::proofs::CommandLemmas::div_left, crate::proofs::CommandLemmas::div_right, crate::proofs::CommandLemmas::div_both))]
-fn divide<R: CoeffRing, M: Monomial>(
-    defined: &[Definition<Poly<R, M>>],
+// writes the text of the exact quotient, or that there is none
+fn divide<R: CoeffRing, M: Monomial, A: Arithmetic<R, M>>(
+    alloc: Global,
+    arithmetic: &A,
+    ring: R,
+    names: &Names,
+    defined: &Definitions<R, M>,
     a: &[u8],
     b: &[u8],
-) -> LineFault
-    ensures { (setting : Setting) → answer_of setting (held (map plain defined.now)) (Div a.now b.now) ≡ Err result }
+    out: &mut Vec<u8>,
+) -> Result<(), LineFault>
+    requires vars { length names.now ≡ M.VARS }
+    requires modulus { All (λ d. d.poly.modulus ≡ R.characteristic ring) defined.now }
+    requires empty { out.old.items ≡ [] }
+    ensures ok { OnOk
+        result
+        (answer_of (setting_in M.order names.now M.LIM (R.characteristic ring)) (held (map plain defined.now)) (Div a.now b.now) ≡ Ok out.new.items) }
+    ensures refused { IfErr
+        result
+        (λ fault. fault ≢ LineFault.NoMemory → answer_of (setting_in M.order names.now M.LIM (R.characteristic ring)) (held (map plain defined.now)) (Div a.now b.now) ≡ Err fault) }
+    ensures same { OnErr result (out.new.items ≡ []) }
 {
-    let Err(fault) = look_up(defined, a) else {
-        return match look_up(defined, b) {
-            Ok(_) => LineFault::NotBuilt,
-            Err(fault) => fault,
-        };
-    };
-    fault
+    let f = defined.look_up(a)?;
+    let g = defined.look_up(b)?;
+    canonical(f);
+    canonical(g);
+    match arithmetic.quotient(alloc, f, g)? {
+        Some(quotient) => write_line(alloc, &quotient, names, out),
+        None => write_none(out),
+    }
 }
 
-// writes the text of a polynomial and a line feed
+// writes the texts of the quotient and of the remainder
+fn remainder<R: CoeffRing, M: Monomial, A: Arithmetic<R, M>>(
+    alloc: Global,
+    arithmetic: &A,
+    ring: R,
+    names: &Names,
+    defined: &Definitions<R, M>,
+    a: &[u8],
+    b: &[u8],
+    out: &mut Vec<u8>,
+) -> Result<(), LineFault>
+    requires vars { length names.now ≡ M.VARS }
+    requires modulus { All (λ d. d.poly.modulus ≡ R.characteristic ring) defined.now }
+    requires empty { out.old.items ≡ [] }
+    ensures ok { OnOk
+        result
+        (answer_of (setting_in M.order names.now M.LIM (R.characteristic ring)) (held (map plain defined.now)) (Rem a.now b.now) ≡ Ok out.new.items) }
+    ensures refused { IfErr
+        result
+        (λ fault. fault ≢ LineFault.NoMemory → answer_of (setting_in M.order names.now M.LIM (R.characteristic ring)) (held (map plain defined.now)) (Rem a.now b.now) ≡ Err fault) }
+    ensures same { OnErr result (out.new.items ≡ []) }
+{
+    let f = defined.look_up(a)?;
+    let g = defined.look_up(b)?;
+    canonical(f);
+    canonical(g);
+    let divided = arithmetic.remainder(alloc, f, g)?;
+    write_pair(alloc, &divided, names, out)
+}
+
+// a polynomial's list is canonical, which its invariant says
+fn canonical<R: CoeffRing, M: Monomial>(f: &Poly<R, M>)
+    ensures { IsPoly M.order f.now.modulus M.VARS f.now.list }
+{
+    let _ = f.terms();
+}
+
+// appends the text of a polynomial and a line feed, all or nothing
 fn write_line<R: CoeffRing, M: Monomial>(
     alloc: Global,
     poly: &Poly<R, M>,
@@ -185,16 +237,52 @@ fn write_line<R: CoeffRing, M: Monomial>(
     out: &mut Vec<u8>,
 ) -> Result<(), LineFault>
     requires vars { length names.now ≡ M.VARS }
-    requires empty { out.old.items ≡ [] }
-    ensures ok { OnOk result (out.new.items ≡ text names.now poly.now.list ++ 10 ∷ []) }
+    ensures ok { OnOk result (out.new.items ≡ out.old.items ++ (text names.now poly.now.list ++ 10 ∷ [])) }
     ensures fault { IfErr result (λ fault. fault ≡ LineFault.NoMemory) }
-    ensures same { OnErr result (out.new.items ≡ []) }
+    ensures same { OnErr result (out.new.items ≡ out.old.items) }
 {
+    let start = out.len();
     if write_poly(alloc, poly, names, out).is_err() {
         return Err(LineFault::NoMemory);
     }
     if out.push(b'\n').is_err() {
+        out.truncate(start);
+        return Err(LineFault::NoMemory);
+    }
+    Ok(())
+}
+
+// writes the line of the quotient and that of the remainder
+fn write_pair<R: CoeffRing, M: Monomial>(
+    alloc: Global,
+    divided: &Divided<Poly<R, M>>,
+    names: &Names,
+    out: &mut Vec<u8>,
+) -> Result<(), LineFault>
+    requires vars { length names.now ≡ M.VARS }
+    requires empty { out.old.items ≡ [] }
+    ensures ok { OnOk
+        result
+        (out.new.items ≡ (text names.now divided.now.quotient.list ++ 10 ∷ []) ++ (text names.now divided.now.remainder.list ++ 10 ∷ [])) }
+    ensures fault { IfErr result (λ fault. fault ≡ LineFault.NoMemory) }
+    ensures same { OnErr result (out.new.items ≡ []) }
+{
+    write_line(alloc, &divided.quotient, names, out)?;
+    if write_line(alloc, &divided.remainder, names, out).is_err() {
         out.clear();
+        return Err(LineFault::NoMemory);
+    }
+    Ok(())
+}
+
+// writes that there is no quotient
+fn write_none(out: &mut Vec<u8>) -> Result<(), LineFault>
+    requires empty { out.old.items ≡ [] }
+    ensures ok { OnOk result (out.new.items ≡ codes "none\n") }
+    ensures fault { IfErr result (λ fault. fault ≡ LineFault.NoMemory) }
+    ensures same { OnErr result (out.new.items ≡ []) }
+{
+    if out.extend_from_slice(b"none\n").is_err() {
         return Err(LineFault::NoMemory);
     }
     Ok(())

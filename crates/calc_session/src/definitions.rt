@@ -1,7 +1,7 @@
 //! Names and what they stand for.
-ghost use Rattle.std.specs.Prelude.{◌≡◌, ◌<◌, ℕ, Ok, Err, length, map, All, MatchResult, OnOk, OnErr, IfOk, IfSome};
+ghost use Rattle.std.specs.Prelude.{◌≡◌, ℕ, [], Ok, Err, map, All, MatchResult, OnOk, OnErr, IfOk};
 ghost use Rattle.calc_session.specs.Session.{known, define as define_name};
-ghost use Rattle.calc_session.specs.View.{held, plain, place_of};
+ghost use Rattle.calc_session.specs.View.{held, plain};
 
 use crate::fault::LineFault;
 use canonical_terms::Poly;
@@ -9,63 +9,64 @@ use coeff_ring::CoeffRing;
 use packed_monomial::Monomial;
 use sdmp_laws::NoMemory;
 use std::alloc::Global;
+use std::collections::BTreeMap;
+use std::marker::Model;
 
-/// A name and what it stands for.
+/// The names that are defined, and the polynomial of each. A name is found in a time that grows with the logarithm of their number, whatever the names.
+///
+/// Contracts see the list of the definitions.
 #[derive(Drop)]
-pub struct Definition<P> {
-    pub name: Vec<u8>,
-    pub poly: P,
+pub struct Definitions<R: CoeffRing, M: Monomial> {
+    polynomials: BTreeMap<Vec<u8>, Poly<R, M>>,
 }
 
-/// The polynomial that the name stands for.
-pub(crate) fn look_up<'s, R: CoeffRing, M: Monomial>(
-    defined: &'s [Definition<Poly<R, M>>],
-    name: &[u8],
-) -> Result<&'s Poly<R, M>, LineFault>
-    ensures known { MatchResult
-        result
-        (λ f. known (held (map plain defined.entry.now) name.now) ≡ Ok f.now.list)
-        (λ fault. known (held (map plain defined.entry.now) name.now) ≡ Err fault) }
-    ensures modulus { IfOk result (λ f. (p : ℕ) → All (λ d. d.poly.modulus ≡ p) defined.entry.now → f.now.modulus ≡ p) }
-{
-    match find(defined, name) {
-        Some(i) => Ok(&defined[i].poly),
-        None => Err(LineFault::UnknownName),
-    }
+impl<R: CoeffRing, M: Monomial> Model for Definitions<R, M> {
+    ghost use Rattle.std.specs.Prelude.{List};
+    ghost use Rattle.calc_session.specs.Definitions.{Definition, definitions_of};
+
+    ghost Value = { List Definition };
+
+    ghost view = { λ d. definitions_of d.polynomials.entries };
 }
 
-// the place of the definition of a name
-fn find<P>(defined: &[Definition<P>], name: &[u8]) -> Option<usize>
-    ensures place { result ≡ place_of defined.now name.now }
-    ensures within { IfSome result (λ i. i < length defined.now) }
-{
-    defined
-        .iter()
-        .position(|definition| definition.name.as_slice() == name)
-}
+impl<R: CoeffRing, M: Monomial> Definitions<R, M> {
+    /// Nothing is defined. It allocates nothing.
+    pub fn new(alloc: Global) -> Definitions<R, M>
+        ensures { result ≡ [] }
+    {
+        Definitions {
+            polynomials: BTreeMap::new(alloc),
+        }
+    }
 
-/// Lets the name stand for this polynomial, and no longer for another.
-pub(crate) fn define<R: CoeffRing, M: Monomial>(
-    alloc: Global,
-    name: &[u8],
-    poly: Poly<R, M>,
-    defined: &mut Vec<Definition<Poly<R, M>>>,
-) -> Result<(), NoMemory>
-    ensures ok { OnOk result (held (map plain defined.new.items) ≡ define_name name.now poly.list (held (map plain defined.old.items))) }
-    ensures err { OnErr result (defined.new.items ≡ defined.old.items) }
-    ensures modulus { OnOk
-        result
-        ((p : ℕ) → poly.modulus ≡ p → All (λ d. d.poly.modulus ≡ p) defined.old.items → All (λ d. d.poly.modulus ≡ p) defined.new.items) }
-{
-    if let Some(i) = find(defined, name) {
-        defined[i].poly = poly;
-        return Ok(());
+    /// The polynomial that the name stands for.
+    pub fn look_up(&self, name: &[u8]) -> Result<&Poly<R, M>, LineFault>
+        ensures known { MatchResult
+            result
+            (λ f. known (held (map plain self.now) name.now) ≡ Ok f.now.list)
+            (λ fault. known (held (map plain self.now) name.now) ≡ Err fault) }
+        ensures modulus { IfOk result (λ f. (p : ℕ) → All (λ d. d.poly.modulus ≡ p) self.now → f.now.modulus ≡ p) }
+    {
+        match self.polynomials.get(name) {
+            Some(poly) => Ok(poly),
+            None => Err(LineFault::UnknownName),
+        }
     }
-    let Ok(name) = name.to_vec(alloc) else {
-        return Err(NoMemory);
-    };
-    if defined.push(Definition { name, poly }).is_err() {
-        return Err(NoMemory);
+
+    /// Lets the name stand for this polynomial, and no longer for another. After NoMemory the definitions are as before.
+    pub fn define(&mut self, alloc: Global, name: &[u8], poly: Poly<R, M>) -> Result<(), NoMemory>
+        ensures ok { OnOk result (held (map plain self.new) ≡ define_name name.now poly.list (held (map plain self.old))) }
+        ensures err { OnErr result (self.new ≡ self.old) }
+        ensures modulus { OnOk
+            result
+            ((p : ℕ) → poly.modulus ≡ p → All (λ d. d.poly.modulus ≡ p) self.old → All (λ d. d.poly.modulus ≡ p) self.new) }
+    {
+        let Ok(name) = name.to_vec(alloc) else {
+            return Err(NoMemory);
+        };
+        if self.polynomials.insert(name, poly).is_err() {
+            return Err(NoMemory);
+        }
+        Ok(())
     }
-    Ok(())
 }

@@ -43,8 +43,6 @@ pub enum LineFault {
     ZeroDivisor,
     /// The leading coefficient of the divisor has no inverse.
     NotUnit,
-    /// Division isn't there yet.
-    NotBuilt,
     /// Memory is wanting.
     NoMemory,
 }

@@ -69,7 +69,6 @@ fn words_of(fault: &LineFault) -> &'static str
         LineFault::TermBound => "term bound",
         LineFault::ZeroDivisor => "division by zero",
         LineFault::NotUnit => "leading coefficient is no unit",
-        LineFault::NotBuilt => "not built",
         LineFault::NoMemory => "",
     }
 }

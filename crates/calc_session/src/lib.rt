@@ -18,7 +18,7 @@ pub mod session;
 pub mod vars;
 
 pub use answers::Ending;
-pub use arithmetic::Arithmetic;
+pub use arithmetic::{Arithmetic, Divided};
 pub use body::{Line, parse_line};
 pub use demo::demo_input;
 pub use fault::LineFault;

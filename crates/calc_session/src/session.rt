@@ -5,10 +5,9 @@ ghost use Rattle.calc_session.specs.View.{answers_of};
 
 use crate::arithmetic::Arithmetic;
 use crate::commands::answer_line;
-use crate::definitions::Definition;
+use crate::definitions::Definitions;
 use crate::fault::LineFault;
 use crate::faults::write_fault;
-use canonical_terms::Poly;
 use coeff_ring::CoeffRing;
 use packed_monomial::Monomial;
 use poly_text::Names;
@@ -30,7 +29,7 @@ pub enum Next {
 pub struct BodySession<R: CoeffRing, M: Monomial> {
     ring: R,
     names: Names,
-    defined: Vec<Definition<Poly<R, M>>>,
+    defined: Definitions<R, M>,
 }
 
 impl<R: CoeffRing, M: Monomial> Model for BodySession<R, M> {
@@ -41,10 +40,10 @@ impl<R: CoeffRing, M: Monomial> Model for BodySession<R, M> {
 
     ghost view = { λ s. record {
       setting = record { order = M.order; variables = s.names; limit = M.LIM; modulus = R.characteristic s.ring };
-      defined = map plain s.defined.items;
+      defined = map plain s.defined;
     } };
 
-    ghost invariant = { λ s. (length s.names ≡ M.VARS) × All (λ d. d.poly.modulus ≡ R.characteristic s.ring) s.defined.items };
+    ghost invariant = { λ s. (length s.names ≡ M.VARS) × All (λ d. d.poly.modulus ≡ R.characteristic s.ring) s.defined };
 }
 
 impl<R: CoeffRing, M: Monomial> BodySession<R, M> {
@@ -59,7 +58,7 @@ impl<R: CoeffRing, M: Monomial> BodySession<R, M> {
         BodySession {
             ring,
             names,
-            defined: Vec::new(alloc),
+            defined: Definitions::new(alloc),
         }
     }
 

@@ -5,7 +5,7 @@ use packed_monomial::{Monomial, Packed};
 use std::alloc::Global;
 use std::test::Fail;
 
-/// Multiplies nothing.
+/// Multiplies and divides nothing.
 struct Idle;
 
 impl<R: CoeffRing, M: Monomial> Arithmetic<R, M> for Idle {
@@ -15,6 +15,24 @@ impl<R: CoeffRing, M: Monomial> Arithmetic<R, M> for Idle {
         f: &Poly<R, M>,
         g: &Poly<R, M>,
     ) -> Result<Poly<R, M>, LineFault> {
+        Err(LineFault::NoMemory)
+    }
+
+    fn quotient(
+        &self,
+        _alloc: Global,
+        f: &Poly<R, M>,
+        g: &Poly<R, M>,
+    ) -> Result<Option<Poly<R, M>>, LineFault> {
+        Err(LineFault::NoMemory)
+    }
+
+    fn remainder(
+        &self,
+        _alloc: Global,
+        f: &Poly<R, M>,
+        g: &Poly<R, M>,
+    ) -> Result<Divided<Poly<R, M>>, LineFault> {
         Err(LineFault::NoMemory)
     }
 }
@@ -74,8 +92,8 @@ fn shows_what_is_defined(rt: HostRuntime) -> Result<(), Fail> {
     assert_eq!(rt; next, Next::More);
     assert_eq!(rt; out.as_slice(), b"x^2-1\n".as_slice());
     out.clear();
-    session.answer(rt.alloc(), &Idle, 6, b"rem a a", &mut out)?;
-    assert_eq!(rt; out.as_slice(), b"line 6: not built\n".as_slice());
+    session.answer(rt.alloc(), &Idle, 6, b"rem a b", &mut out)?;
+    assert_eq!(rt; out.as_slice(), b"line 6: unknown name\n".as_slice());
     Ok(())
 }
 

@@ -1,7 +1,5 @@
-use Rattle.std.proofs.Common.{rules, map, ◌≡◌, ◌≤◌, ◌+◌, length, drop, arith}
+use Rattle.std.proofs.Common.{rules, ◌≡◌, ◌+◌, length, drop, arith}
 use Rattle.std.proofs.lemmas.List.{take_rest, length-drop}
-use Rattle.calc_session.specs.View.{held, plain, place_in}
-use Rattle.calc_session.specs.Session.{define}
 use Rattle.calc_session.proofs.CommandLemmas.{read_ok, read_err}
 use Rattle.calc_session.proofs.Places.{fault_placed}
 use Rattle.calc_session.proofs.commands.define_text.Goals as goal

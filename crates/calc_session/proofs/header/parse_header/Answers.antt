@@ -1,4 +1,4 @@
-use Rattle.std.proofs.Common.{rules, ◌≡◌, ◌+◌, ◌∷◌, ℕ, List, sym, ◌∙◌}
+use Rattle.std.proofs.Common.{rules, ◌≡◌, ◌+◌, ◌∷◌, sym, ◌∙◌}
 use Rattle.poly_text.specs.Words.{words_of}
 use Rattle.calc_session.specs.Lines.{lines, effective}
 use Rattle.calc_session.proofs.SessionLemmas.{header_vars, header_ring}
