@@ -12,28 +12,28 @@ use Rattle.calc_session.specs.declared.fault.LineFault.TheVariants.{VarsExpected
 use Rattle.calc_session.proofs.CommandLemmas.{body_more, body_refused}
 use Rattle.session_laws.specs.Answered.{IsRight, IsBody, IsFromRing, IsFromVars, IsAnswered}
 use Rattle.session_laws.specs.Laws.{AnswersAreAnswered}
-use Rattle.session_laws.proofs.Lines.{AllOver, none_over, right_is, wrong_is, right_over, RightOrWrong, line_some}
+use Rattle.session_laws.proofs.Lines.{AllPolys, none_polys, right_is, wrong_is, right_polys, RightOrWrong, line_some}
 
 -- ---- the body
-body_is : (setting : Setting) (old : Defined) (number : ℕ) (lines : List (List ℕ)) (A : Answers) → AllOver (length setting.variables) old → IsBody setting old number lines A → body_answers setting old number lines ≡ A
+body_is : (setting : Setting) (old : Defined) (number : ℕ) (lines : List (List ℕ)) (A : Answers) → AllPolys setting old → IsBody setting old number lines A → body_answers setting old number lines ≡ A
 unfolding body_answers
 body_is setting old number [] A all h = sym h
 body_is setting old number (line ∷ later) A all (inl (now, piece, rest, right, body, is)) =
     body_more setting old now number line piece (right_is setting old line all now piece right) later
-    ∙ ap (before piece) (body_is setting now (number + 1) later rest (right_over setting old line all now piece right) body)
+    ∙ ap (before piece) (body_is setting now (number + 1) later rest (right_polys setting old line all now piece right) body)
     ∙ sym is
-body_is setting old number (line ∷ later) A all (inr (fault, wrong, is)) = body_refused setting old number line fault (wrong_is setting old line fault wrong) later ∙ sym is
+body_is setting old number (line ∷ later) A all (inr (fault, wrong, is)) = body_refused setting old number line fault (wrong_is setting old line all fault wrong) later ∙ sym is
 
-body_some : (setting : Setting) (old : Defined) (number : ℕ) (lines : List (List ℕ)) → AllOver (length setting.variables) old → (A : Answers) × IsBody setting old number lines A
+body_some : (setting : Setting) (old : Defined) (number : ℕ) (lines : List (List ℕ)) → AllPolys setting old → (A : Answers) × IsBody setting old number lines A
 body_some setting old number [] all = (done, refl)
 body_some setting old number (line ∷ later) all = by (λ now o. body_some setting now (number + 1) later o) (line_some setting old line all)
   where
     more : (now : Defined) (piece : List ℕ) → IsRight setting old line now piece → (A : Answers) × IsBody setting now (number + 1) later A → (A : Answers) × IsBody setting old number (line ∷ later) A
     more now piece right (rest, body) = (before piece rest, inl (now, piece, rest, right, body, refl))
 
-    by : ((now : Defined) → AllOver (length setting.variables) now → (A : Answers) × IsBody setting now (number + 1) later A)
+    by : ((now : Defined) → AllPolys setting now → (A : Answers) × IsBody setting now (number + 1) later A)
         → RightOrWrong setting old line → (A : Answers) × IsBody setting old number (line ∷ later) A
-    by rest (inl (now, piece, right)) = more now piece right (rest now (right_over setting old line all now piece right))
+    by rest (inl (now, piece, right)) = more now piece right (rest now (right_polys setting old line all now piece right))
     by rest (inr (fault, wrong)) = (refused (fault_line number fault), inr (fault, wrong, refl))
 
 -- ---- the header
@@ -47,7 +47,7 @@ ring_is : (variables : List (List ℕ)) (from : ℕ × List (List ℕ)) (A : Ans
 unfolding ring_answers after_ring
 ring_is variables (number, []) A h = sym h
 ring_is variables (number, line ∷ later) A (inl (ring, e, body)) =
-    ap (after_ring variables number later) e ∙ body_is (setting_of variables (characteristic_of ring)) undefined (number + 1) later A (none_over (length variables)) body
+    ap (after_ring variables number later) e ∙ body_is (setting_of variables (characteristic_of ring)) undefined (number + 1) later A (none_polys (setting_of variables (characteristic_of ring))) body
 ring_is variables (number, line ∷ later) A (inr (fault, e, is)) = ap (after_ring variables number later) e ∙ sym is
 
 ring_some : (variables : List (List ℕ)) (from : ℕ × List (List ℕ)) → (A : Answers) × IsFromRing variables from A
@@ -59,7 +59,7 @@ ring_some variables (number, line ∷ later) = by (ring_of (words_of line)) refl
     more ring e (A, body) = (A, inl (ring, e, body))
 
     by : (r : Result RingChoice LineFault) → ring_of (words_of line) ≡ r → (A : Answers) × IsFromRing variables (number, line ∷ later) A
-    by (Ok ring) e = more ring e (body_some (setting_of variables (characteristic_of ring)) undefined (number + 1) later (none_over (length variables)))
+    by (Ok ring) e = more ring e (body_some (setting_of variables (characteristic_of ring)) undefined (number + 1) later (none_polys (setting_of variables (characteristic_of ring))))
     by (Err fault) e = (refused (fault_line number fault), inr (fault, e, refl))
 
 after_vars : ℕ → List (List ℕ) → Result (List (List ℕ)) LineFault → Answers

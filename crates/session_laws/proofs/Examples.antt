@@ -1,8 +1,11 @@
 -- Sessions and their answers by the rules.
 use Rattle.std.proofs.Common.{◌≡◌, ℕ, List, [], ◌∷◌, codes, get_or, None, pos, inl, refl, sym, ◌∙◌, ap, arith}
 use Rattle.std.specs.Fmt.{digits}
-use Rattle.sdmp_laws.specs.Order.{degree, ◌⋅◌, alike, is_below, tie_below, lex_below}
-use Rattle.sdmp_laws.specs.Poly.{Term, Over, AllBelow, Decreasing, Proper, norm, term_times, row, times, is_zero, keep, term_plus, put, terms}
+use Rattle.sdmp_laws.specs.Order.{degree, ◌⋅◌, alike, over, divides, is_below, tie_below, lex_below}
+use Rattle.sdmp_laws.specs.Poly.{Term, Over, AllBelow, Decreasing, Proper, norm, term_times, row, times, is_zero, keep, term_plus, put, terms, minus, negated, term_neg, lm, lc}
+use Rattle.sdmp_laws.specs.LongDivision.{quotient_list, turns_bound, turns_at, turn_at, turn_on, listed, factor, first_in_scope}
+use Rattle.sdmp_laws.specs.DivisionLaws.{rest_list}
+use Rattle.division_laws.specs.Outcome.{outcome, is_empty, is_unit, asks_unit, looked_at, passes_early, is_long, ending}
 use Rattle.text_laws.specs.Bytes.{class_of}
 use Rattle.text_laws.specs.Grammar.{Tree, Symbol, IsTree}
 use Rattle.text_laws.specs.Reading.{denotes}
@@ -14,7 +17,7 @@ use Rattle.calc_session.specs.Faults.{fault_words, fault_column}
 use Rattle.calc_session.specs.Header.{modulus_of}
 use Rattle.calc_session.specs.Body.{Define, Show, definition, command}
 use Rattle.calc_session.specs.Product.{product}
-use Rattle.calc_session.specs.Session.{Setting, setting_of, Defined, undefined, define, answers, vars_answers, ring_answers, body_answers, answer_to, reading_at, text_line, product_in}
+use Rattle.calc_session.specs.Session.{Setting, setting_of, Defined, undefined, define, answers, vars_answers, ring_answers, body_answers, answer_to, reading_at, text_line, product_in, division_lines}
 use Rattle.calc_session.specs.declared.answers.Ending.TheVariants.{Done}
 use Rattle.calc_session.specs.declared.ring.RingChoice.TheVariants.{Integers}
 use Rattle.session_laws.specs.Answered.{IsSum, IsRead, IsAnswered}
@@ -48,6 +51,17 @@ square_is = refl
 
 square_answered : IsAnswered square (all (codes "x^2+1\n" ∷ codes "x+1\n" ∷ []))
 square_answered = by_law square (all (codes "x^2+1\n" ∷ codes "x+1\n" ∷ [])) square_is
+
+-- x^2 - 1 divided by x - 1, by x with a remainder, and by x
+abbrev divisions : List ℕ
+divisions = codes "vars x\nring Z\na = x^2-1\nb = x-1\nc = x\ndiv a b\nrem a c\ndiv a c\n"
+
+divisions_are : answers divisions ≡ all (codes "x+1\n" ∷ codes "x\n-1\n" ∷ codes "none\n" ∷ [])
+unfolding answers digits cut_lines without_return words_of word_fault fault_behind effective vars_answers ring_answers definition command answer_to body_answers reading_at denotes class_of text_line division_lines outcome is_empty is_unit asks_unit looked_at passes_early is_long ending quotient_list turns_bound turns_at turn_at turn_on listed factor first_in_scope rest_list minus negated term_neg lm lc over divides times row term_times ◌⋅◌ norm terms put keep is_zero term_plus alike is_below tie_below lex_below degree
+divisions_are = refl
+
+divisions_answered : IsAnswered divisions (all (codes "x+1\n" ∷ codes "x\n-1\n" ∷ codes "none\n" ∷ []))
+divisions_answered = by_law divisions (all (codes "x+1\n" ∷ codes "x\n-1\n" ∷ codes "none\n" ∷ [])) divisions_are
 
 -- no number stands behind a star: the fault of the third line ends the session
 abbrev faulty : List ℕ
