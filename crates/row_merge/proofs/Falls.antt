@@ -1,10 +1,12 @@
 -- Falling lists by places, and the terms at every so many places.
-use Rattle.std.proofs.Common.{◌≡◌, ℕ, zero, suc, ◌+◌, ◌-◌, ◌*◌, ◌<◌, ◌≤◌, List, [], ◌∷◌, length, get_or, drop, map, unsigned_abs, refl, ap, ap₂, ◌∙◌, subst, arith}
-use Rattle.std.proofs.lemmas.List.{get_or-map, length-map}
-use Rattle.sdmp_laws.specs.Order.{Order, ◌⋅◌, Below, degree}
+use Rattle.std.proofs.Common.{◌≡◌, ℕ, zero, suc, ◌+◌, ◌-◌, ◌*◌, ◌<◌, ◌≤◌, List, [], ◌∷◌, ◌++◌, length, get_or, drop, map, ℤ, unsigned_abs, refl, sym, ap, ◌∙◌, arith}
+use Rattle.std.proofs.lemmas.List.{get_or-map, map-append}
+use Rattle.sdmp_laws.specs.Order.{Order, Below, degree}
 use Rattle.sdmp_laws.specs.Poly.{Term, norm, Over, AllBelow, Decreasing, AllDegrees}
 use Rattle.sdmp_laws.proofs.Parts.{norm_nil, norm_cons}
-use Rattle.row_merge.specs.Rows.{nothing, term_at, strided, InRange, IsFalling, corner}
+use Rattle.canonical_terms.specs.declared.term.TermOf.{TermOf}
+use Rattle.canonical_terms.specs.View.{term_of, sum_of}
+use Rattle.row_merge.specs.Rows.{nothing, term_at, strided, InRange, IsFalling}
 
 -- ---- lists by places
 pub mapped : {X : Type 0} (f : X → Term) (xs : List X) (k : ℕ) (d : X) → k < length xs → term_at (map f xs) k ≡ f (get_or xs k d)
@@ -15,9 +17,6 @@ unfolding AllDegrees degree
 degree_at D [] k h = omega arith
 degree_at D (t ∷ L) zero h = h.0
 degree_at D (t ∷ L) (suc k) h = degree_at D L k h.1
-
-pub degree_mapped : {X : Type 0} (f : X → Term) (D : ℕ) (xs : List X) (k : ℕ) (d : X) → AllDegrees D (map f xs) → k < length xs → degree (f (get_or xs k d)).monomial ≤ D
-degree_mapped f D xs k d h l = subst (λ (t : Term). degree t.monomial ≤ D) (mapped f xs k d l) (degree_at D (map f xs) k h)
 
 pub vector_at : (n : ℕ) (L : List Term) (k : ℕ) → Over n L → k < length L → length (term_at L k).monomial ≡ n
 unfolding Over
@@ -44,19 +43,24 @@ unfolding strided
 length-strided A first stride zero = refl
 length-strided A first stride (suc n) = ap suc (length-strided A (first + stride) stride n)
 
-pub strided_at : (A : List Term) (first stride n k : ℕ) → k < n → term_at (strided A first stride n) k ≡ term_at A (first + stride * k)
+-- one more place
+strided_push : (A : List Term) (first stride n : ℕ) → strided A first stride (suc n) ≡ strided A first stride n ++ term_at A (first + stride * n) ∷ []
 unfolding strided
-strided_at A first stride zero k h = absurd (omega arith)
-strided_at A first stride (suc n) zero h = ap (term_at A) (omega arith)
-strided_at A first stride (suc n) (suc k) h = strided_at A (first + stride) stride n k (omega arith) ∙ ap (term_at A) (omega arith)
+strided_push A first stride zero = ap (λ (k : ℕ). term_at A k ∷ []) (let e : first ≡ first + stride * 0 = omega arith in e)
+strided_push A first stride (suc n) =
+    ap (λ (L : List Term). term_at A first ∷ L) (strided_push A (first + stride) stride n ∙ ap (λ (k : ℕ). strided A (first + stride) stride n ++ term_at A k ∷ []) (let e : first + stride + stride * n ≡ first + stride * suc n = omega arith in e))
 
--- the term of row k, and the monomial of its product at column r
-pub row_is : {X : Type 0} (f : X → Term) (xs : List X) (first stride n k : ℕ) (d : X) → k < n → first + stride * k < length xs → term_at (strided (map f xs) first stride n) k ≡ f (get_or xs (first + stride * k) d)
-row_is f xs first stride n k d h l = strided_at (map f xs) first stride n k h ∙ mapped f xs (first + stride * k) d l
+pub none_strided : (A : List Term) (first stride : ℕ) → [] ≡ strided A first stride 0
+unfolding strided
+none_strided A first stride = refl
 
-pub corner_is : {X : Type 0} (f : X → Term) (xs ys : List X) (first stride n k r : ℕ) (d e : X) → k < n → first + stride * k < length xs → r < length ys
-    → corner (strided (map f xs) first stride n) (map f ys) k r ≡ (f (get_or xs (first + stride * k) d)).monomial ⋅ (f (get_or ys r e)).monomial
-corner_is f xs ys first stride n k r d e h l q = ap₂ (λ (s t : Term). s.monomial ⋅ t.monomial) (row_is f xs first stride n k d h l) (mapped f ys r e q)
+pub more_strided : {M E : Type 0} (vector : M → List ℕ) (value : E → ℤ) (ts part new : List (TermOf M E)) (first stride n : ℕ) (d : TermOf M E) → first + stride * n < length ts
+    → sum_of vector value part ≡ strided (sum_of vector value ts) first stride n → new ≡ part ++ get_or ts (first + stride * n) d ∷ [] → sum_of vector value new ≡ strided (sum_of vector value ts) first stride (n + 1)
+more_strided vector value ts part new first stride n d h e f =
+    ap (sum_of vector value) f ∙ map-append (term_of vector value) part (get_or ts (first + stride * n) d ∷ [])
+    ∙ (λ i. e i ++ sym (mapped (term_of vector value) ts (first + stride * n) d h) i ∷ [])
+    ∙ sym (strided_push (sum_of vector value ts) first stride n)
+    ∙ ap (strided (sum_of vector value ts) first stride) (let s : suc n ≡ n + 1 = omega arith in s)
 
 here : (first stride n len : ℕ) → InRange first stride (suc n) len → first < len
 here first stride n len h = let k = h 0 (omega arith) in omega (arith, k)
@@ -96,10 +100,6 @@ falling_strided ord v lim A first stride n f l r = record {
   degrees = degrees_strided lim A first stride n f.degrees;
 }
 
-pub falling_rows : {X : Type 0} (f : X → Term) (ord : Order) (v lim : ℕ) (xs : List X) (first stride n : ℕ) → IsFalling ord v lim (map f xs) → 0 < stride → InRange first stride n (length xs) → IsFalling ord v lim (strided (map f xs) first stride n)
-falling_rows f ord v lim xs first stride n h l r =
-    falling_strided ord v lim (map f xs) first stride n h l (λ k q. let e = length-map xs f in let w = r k q in omega (arith, e, w))
-
 -- ---- norms
 norm_at : (A : List Term) (i : ℕ) → norm (drop i A) ≡ unsigned_abs (term_at A i).coefficient + norm (drop (suc i) A)
 norm_at [] zero = omega arith
@@ -122,9 +122,3 @@ pub norm-strided : (A : List Term) (first stride n : ℕ) → 0 < stride → nor
 norm-strided A first stride n l =
     let e : first ≡ first + 0 = omega arith in
     omega (arith, norm_stride A first stride n l, norm_later A 0 first, ap (λ k. norm (drop k A)) e)
-
--- no coefficient is greater than the norm
-pub coefficient_within : {X : Type 0} (f : X → Term) (xs : List X) (k : ℕ) (d : X) → k < length xs → unsigned_abs (f (get_or xs k d)).coefficient ≤ norm (map f xs)
-coefficient_within f [] k d h = absurd (omega arith)
-coefficient_within f (x ∷ xs) zero d h = omega (arith, norm_cons (f x) (map f xs))
-coefficient_within f (x ∷ xs) (suc k) d h = omega (arith, norm_cons (f x) (map f xs), coefficient_within f xs k d (omega arith))

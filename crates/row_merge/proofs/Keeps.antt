@@ -28,7 +28,7 @@ unfolding AllDegrees lm degree
 lead_degree D [] h = omega arith
 lead_degree D (t ∷ L) h = h.0
 
-degrees_of : {M E : Type 0} (vector : M → List ℕ) (value : E → ℤ) (D lim : ℕ) (ts : List (TermOf M E)) → D ≤ lim → AllDegrees D (sum_of vector value ts) → All (λ t. degree (vector t.mono) ≤ lim) ts
+pub degrees_of : {M E : Type 0} (vector : M → List ℕ) (value : E → ℤ) (D lim : ℕ) (ts : List (TermOf M E)) → D ≤ lim → AllDegrees D (sum_of vector value ts) → All (λ t. degree (vector t.mono) ≤ lim) ts
 unfolding AllDegrees
 degrees_of vector value D lim [] l h = All-nil _
 degrees_of vector value D lim (t ∷ ts) l h = All-cons (λ t. degree (vector t.mono) ≤ lim) t ts (omega (arith, h.0, l)) (degrees_of vector value D lim ts l h.1)

@@ -1,7 +1,6 @@
 pub mod Falls
 pub mod Unread
-pub mod Stand
-pub mod Tops
+pub mod Counts
 pub mod Sums
 pub mod Every
 pub mod PartLemmas

@@ -1,12 +1,13 @@
 -- The rows after one was read and moved on, and after a term was learned.
 use Rattle.std.proofs.Common.{◌≡◌, ◌≢◌, ℕ, zero, suc, ◌+◌, ◌<◌, ◌≤◌, ◌⊎◌, inl, inr, Bool, true, false, eqb, true≢false, eqb-true, eq-eqb, List, [], ◌∷◌, ◌++◌, length, set, replicate, get_or, Some, None, refl, sym, ap, ◌∙◌, subst, arith, get_or-set_same, get_or-set_other}
-use Rattle.std.proofs.lemmas.List.{length-set, length-replicate, get_or-replicate, get_or_append_left, drop_all, length_push}
+use Rattle.std.proofs.lemmas.Bool.{cases_lt}
+use Rattle.std.proofs.lemmas.List.{length-set, get_or_past, length-replicate, get_or-replicate, get_or_append_left, drop_all, length_push}
 use Rattle.sdmp_laws.specs.Order.{Order, ◌⋅◌, Below}
 use Rattle.sdmp_laws.specs.Poly.{Term, row, Over, Decreasing}
 use Rattle.sdmp_laws.proofs.OrderLemmas.{order_facts}
 use Rattle.chained_heap.specs.declared.node.Place.{Place}
 use Rattle.chained_heap.specs.declared.node.Place.TheVariants.{Out, In, Taken}
-use Rattle.chained_heap.specs.Shape.{place_at}
+use Rattle.chained_heap.specs.Shape.{place_at, is_taken}
 use Rattle.row_merge.specs.Learned.{left_to_read, no_term, product_at, ceiling, IsTakenAt, IsUnder, IsPlaced, AreRows, IsMoved, IsPopped}
 use Rattle.row_merge.proofs.Products.{product_below, length_at, next_lower}
 use Rattle.row_merge.proofs.Places.{ceiling_low}
@@ -23,7 +24,7 @@ moved_other : {M : Type 0} (vector : M → List ℕ) (k i : ℕ) (m : List ℕ) 
 moved_other vector k i m opens old new (inl h) n = ap (λ ps. place_at ps i) h.1.2 ∙ get_or-set_other old k i (In h.1.0) Out n
 moved_other vector k i m opens old new (inr h) n = ap (λ ps. place_at ps i) h.1
 
-moved_count : {M : Type 0} (vector : M → List ℕ) (k : ℕ) (m : List ℕ) (opens : Type 0) (old new : List (Place M)) → IsMoved vector k m opens old new → length new ≡ length old
+pub moved_count : {M : Type 0} (vector : M → List ℕ) (k : ℕ) (m : List ℕ) (opens : Type 0) (old new : List (Place M)) → IsMoved vector k m opens old new → length new ≡ length old
 moved_count vector k m opens old new (inl h) = ap length h.1.2 ∙ length-set old k (In h.1.0)
 moved_count vector k m opens old new (inr h) = ap length h.1
 
@@ -239,6 +240,77 @@ rows_start {M} vector ord rows = record {
     out : (k : ℕ) → k < length rows → get_or (replicate (length rows) 0) k 0 ≡ ceiling [] (replicate (length rows) 0) k
     out zero h = zero_at rows zero h
     out (suc j) h = zero_at rows (suc j) h ∙ sym (zero_at rows j (omega arith))
+
+-- the first row begins, where there is a product: until then no column was seen
+pub rows_begin : {M : Type 0} (vector : M → List ℕ) (ord : Order) (B A : List Term) (reads : List ℕ) (places new : List (Place M)) (opens : Type 0) → AreRows vector ord None [] A reads places
+    → (opens → (0 < length A) × (0 < length B)) → ((0 < length A) × (0 < length B) → opens)
+    → IsMoved vector 0 (product_at A B 0 0) opens places new → AreRows vector ord None B A reads new
+unfolding IsPlaced IsTakenAt IsUnder
+rows_begin {M} vector ord B A reads places new opens a f f' mo = record {
+  reads_count = a.reads_count;
+  places_count = moved_count vector 0 _ _ places new mo ∙ a.places_count;
+  falling = falls;
+  placed = at;
+}
+  where
+    unread : (k : ℕ) → k < length A → get_or reads k 0 ≡ 0
+    unread zero h = omega (arith, a.falling zero h)
+    unread (suc j) h = let z = unread j (omega arith) in omega (arith, a.falling (suc j) h, z)
+
+    falls : (k : ℕ) → k < length A → get_or reads k 0 ≤ ceiling B reads k
+    falls zero h = omega (arith, unread zero h)
+    falls (suc j) h = a.falling (suc j) h
+
+    top : (k : ℕ) → k < length A → ceiling [] reads k ≡ 0
+    top zero h = refl
+    top (suc j) h = unread j (omega arith)
+
+    out : (k : ℕ) → k < length A → (p : Place M) → IsPlaced vector ord None p (get_or reads k 0) (ceiling [] reads k) (product_at A [] k (get_or reads k 0)) → p ≡ Out
+    out k h Out q = refl
+    out k h (In b) q = absurd (let t = top k h in omega (arith, t, q.0))
+    out k h Taken q = absurd q.1
+
+    was_out : (k : ℕ) → k < length A → place_at places k ≡ Out
+    was_out k h = out k h (place_at places k) (a.placed k h)
+
+    first : (h : 0 < length A) → (opens × (m : M) × (vector m ≡ product_at A B 0 0) × (place_at new 0 ≡ In m)) ⊎ ((opens → ⊥) × (place_at new 0 ≡ place_at places 0)) → IsPlaced vector ord None (place_at new 0) (get_or reads 0 0) (length B) (product_at A B 0 (get_or reads 0 0))
+    first h (inl q) =
+        subst (λ (p : Place M). IsPlaced vector ord None p (get_or reads 0 0) (length B) (product_at A B 0 (get_or reads 0 0))) (sym q.3)
+        (let z = unread 0 h in let b = (f q.0).1 in (omega (arith, z, b), q.2 ∙ ap (λ (j : ℕ). product_at A B 0 j) (sym z), tt))
+    first h (inr q) =
+        subst (λ (p : Place M). IsPlaced vector ord None p (get_or reads 0 0) (length B) (product_at A B 0 (get_or reads 0 0))) (sym (q.1 ∙ was_out 0 h))
+        (let z = unread 0 h in let n : 0 < length B → ⊥ = λ b. q.0 (f' (h, b)) in omega (arith, z, n))
+
+    at : (k : ℕ) → k < length A → IsPlaced vector ord None (place_at new k) (get_or reads k 0) (ceiling B reads k) (product_at A B k (get_or reads k 0))
+    at zero h = first h (moved_place vector 0 _ _ places new mo (omega (arith, a.places_count, h)))
+    at (suc j) h =
+        subst (λ (p : Place M). IsPlaced vector ord None p (get_or reads (suc j) 0) (get_or reads j 0) (product_at A B (suc j) (get_or reads (suc j) 0)))
+        (sym (moved_other vector 0 (suc j) _ _ places new mo (omega arith) ∙ was_out (suc j) h))
+        (unread (suc j) h ∙ sym (unread j (omega arith)))
+
+-- no row is in the heap before a column is seen
+pub none_out : {M : Type 0} (vector : M → List ℕ) (ord : Order) (A : List Term) (reads : List ℕ) (places : List (Place M)) → AreRows vector ord None [] A reads places → 0 < length A → place_at places 0 ≡ Out
+unfolding IsPlaced IsTakenAt
+none_out {M} vector ord A reads places a h = pick (place_at places 0) (a.placed 0 h)
+  where
+    pick : (p : Place M) → IsPlaced vector ord None p (get_or reads 0 0) 0 (product_at A [] 0 (get_or reads 0 0)) → p ≡ Out
+    pick Out q = refl
+    pick (In b) q = absurd (omega (arith, q.0))
+    pick Taken q = absurd q.1
+
+-- no row is taken between calls
+pub none_taken : {M : Type 0} (vector : M → List ℕ) (ord : Order) (B A : List Term) (reads : List ℕ) (places : List (Place M)) → AreRows vector ord None B A reads places → (r : ℕ) → is_taken (place_at places r) ≡ false
+unfolding IsPlaced IsTakenAt
+none_taken {M} vector ord B A reads places a r = by (cases_lt r (length A))
+  where
+    pick : (p : Place M) (i t : ℕ) (m : List ℕ) → IsPlaced vector ord None p i t m → is_taken p ≡ false
+    pick Out i t m q = refl
+    pick (In b) i t m q = refl
+    pick Taken i t m q = absurd q.1
+
+    by : (r < length A) ⊎ (length A ≤ r) → is_taken (place_at places r) ≡ false
+    by (inl h) = pick (place_at places r) _ _ _ (a.placed r h)
+    by (inr h) = ap is_taken (get_or_past places r Out (omega (arith, h, a.places_count)))
 
 pub none_left : (reads : List ℕ) (rows : List Term) → left_to_read [] reads rows ≡ []
 unfolding left_to_read row

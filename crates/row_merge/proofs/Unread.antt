@@ -1,32 +1,16 @@
 -- The products that rows have left to read.
-use Rattle.std.proofs.Common.{◌≡◌, ◌≢◌, ℕ, Bool, true, false, cond, zero, suc, ◌+◌, ◌*◌, ◌<◌, ◌≤◌, List, [], ◌∷◌, ◌++◌, length, set, drop, sum, pos, ◌+ℤ◌, unsigned_abs, refl, sym, ap, ap₂, ◌∙◌, arith, length-append, length-drop}
+use Rattle.std.proofs.Common.{◌≡◌, ◌≢◌, ℕ, Bool, true, false, cond, zero, suc, ◌+◌, ◌*◌, ◌≤◌, List, [], ◌∷◌, ◌++◌, length, drop, sum, pos, refl, sym, ap, ap₂, ◌∙◌, arith, length-append, length-drop}
 use Rattle.std.proofs.lemmas.Int.{ints}
-use Rattle.std.proofs.lemmas.List.{drop_all}
 use Rattle.std.proofs.lemmas.List.Sums.{sum_by-cons}
-use Rattle.std.proofs.Math.Nat.{mul-le-mul_right}
-use Rattle.sdmp_laws.specs.Order.{Order, ◌⋅◌, Below, alike}
+use Rattle.sdmp_laws.specs.Order.{Order, Below, alike}
 use Rattle.sdmp_laws.specs.Ring.{red, IsReduced}
-use Rattle.sdmp_laws.specs.Poly.{Term, total, coef, Same, term_times, row, times, norm, Over, AllBelow, Decreasing, IsPoly, terms}
+use Rattle.sdmp_laws.specs.Poly.{Term, total, coef, Same, term_times, row, times, Over, AllBelow, IsPoly, terms}
 use Rattle.sdmp_laws.proofs.Ints.{red_zero, red_add}
 use Rattle.sdmp_laws.proofs.OrderLemmas.{Three, is_less, is_equal, is_greater, below_total, length_times}
-use Rattle.sdmp_laws.proofs.PolyLemmas.{total_append}
 use Rattle.sdmp_laws.proofs.TermsLemmas.{total_cons, total_one, total_above, AllBelow-up, below_cons, nothing_below, head_facts, coef_head, cons_poly, terms_poly, terms_same, terms_only, terms_equal}
-use Rattle.sdmp_laws.proofs.DivisionLemmas.{AllBelow-append, row_below}
-use Rattle.sdmp_laws.proofs.Parts.{norm_nil, norm_cons, norm_append, norm_times}
-use Rattle.row_merge.specs.Rows.{term_at, reads_of, strided, unread}
-use Rattle.row_merge.proofs.Falls.{norm-strided}
+use Rattle.row_merge.specs.Rows.{reads_of, unread}
 
 -- ---- one row
--- the product of row k at column r
-abbrev pub product_at : List Term → List Term → ℕ → ℕ → Term
-product_at A B k r = term_times (term_at A k) (term_at B r)
-
-row_next : (s : Term) (B : List Term) (r : ℕ) → r < length B → row s (drop r B) ≡ term_times s (term_at B r) ∷ row s (drop (suc r) B)
-unfolding row
-row_next s [] r h = absurd (omega arith)
-row_next s (t ∷ B) zero h = refl
-row_next s (t ∷ B) (suc r) h = row_next s B r (omega arith)
-
 length-row : (s : Term) (B : List Term) → length (row s B) ≡ length B
 unfolding row
 length-row s [] = refl
@@ -39,22 +23,6 @@ over_row n s [] (suc r) l o = tt
 over_row n s (t ∷ B) zero l o = (length_times s.monomial t.monomial (l ∙ sym o.0) ∙ l, over_row n s B zero l o.1)
 over_row n s (t ∷ B) (suc r) l o = over_row n s B r l o.1
 
-below_row : (ord : Order) (n : ℕ) (s : Term) (B : List Term) (r : ℕ) (x : List ℕ) → Over n B → Decreasing ord B → (r < length B → Below ord (s.monomial ⋅ (term_at B r).monomial) x) → AllBelow ord x (row s (drop r B))
-unfolding AllBelow row term_times Over Decreasing
-below_row ord n s [] zero x o d h = tt
-below_row ord n s [] (suc r) x o d h = tt
-below_row ord n s (t ∷ B) zero x o d h =
-    let b : Below ord (s.monomial ⋅ t.monomial) x = h (omega arith) in
-    (b, AllBelow-up ord (s.monomial ⋅ t.monomial) x (row s B) b (row_below ord n s t.monomial B o.0 o.1 d.0))
-below_row ord n s (t ∷ B) (suc r) x o d h = below_row ord n s B r x o.1 d.1 (λ l. h (omega arith))
-
-norm_row_drop : (s : Term) (B : List Term) (r : ℕ) → norm (row s (drop r B)) ≤ norm (row s B)
-unfolding row
-norm_row_drop s [] zero = omega arith
-norm_row_drop s [] (suc r) = omega arith
-norm_row_drop s (t ∷ B) zero = omega arith
-norm_row_drop s (t ∷ B) (suc r) = omega (arith, norm_row_drop s B r, norm_cons (term_times s t) (row s B))
-
 -- ---- all rows
 pub unread_begins : (A : List Term) (reads : List ℕ) (B : List Term) → length reads ≡ length A → ((k : ℕ) → reads_of reads k ≡ 0) → unread A reads B ≡ times A B
 unfolding unread times
@@ -62,42 +30,6 @@ unread_begins [] reads B l z = refl
 unread_begins (s ∷ A) [] B l z = absurd (omega arith)
 unread_begins (s ∷ A) (r ∷ reads) B l z =
     ap₂ (λ (x y : List Term). x ++ y) (ap (λ k. row s (drop k B)) (z 0)) (unread_begins A reads B (omega arith) (λ k. z (suc k)))
-
-pub unread_ends : (A : List Term) (reads : List ℕ) (B : List Term) → length reads ≡ length A → ((k : ℕ) → k < length A → length B ≤ reads_of reads k) → unread A reads B ≡ []
-unfolding unread row
-unread_ends [] reads B l z = refl
-unread_ends (s ∷ A) [] B l z = refl
-unread_ends (s ∷ A) (r ∷ reads) B l z =
-    ap₂ (λ (x y : List Term). x ++ y) (ap (row s) (drop_all r B (z 0 (omega arith)))) (unread_ends A reads B (omega arith) (λ k h. z (suc k) (omega arith)))
-
-pub unread_total : (A : List Term) (reads : List ℕ) (B : List Term) (k r : ℕ) (m : List ℕ) → length reads ≡ length A → k < length A → reads_of reads k ≡ r → r < length B
-    → total (unread A reads B) m ≡ total (product_at A B k r ∷ []) m +ℤ total (unread A (set reads k (suc r)) B) m
-unfolding unread
-unread_total [] reads B k r m l h e b = absurd (omega arith)
-unread_total (s ∷ A) [] B k r m l h e b = absurd (omega arith)
-unread_total (s ∷ A) (q ∷ reads) B zero r m l h e b =
-    ap (λ (x : List Term). total (x ++ unread A reads B) m) (ap (λ i. row s (drop i B)) e ∙ row_next s B r b)
-    ∙ total_cons (term_times s (term_at B r)) (row s (drop (suc r) B) ++ unread A reads B) m
-unread_total (s ∷ A) (q ∷ reads) B (suc k) r m l h e b =
-    omega (arith, ints, total_append (row s (drop q B)) (unread A reads B) m, total_append (row s (drop q B)) (unread A (set reads k (suc r)) B) m, unread_total A reads B k r m (omega arith) (omega arith) e b)
-
-pub unread_norm : (A : List Term) (reads : List ℕ) (B : List Term) (k r : ℕ) → length reads ≡ length A → k < length A → reads_of reads k ≡ r → r < length B
-    → norm (unread A reads B) ≡ unsigned_abs (product_at A B k r).coefficient + norm (unread A (set reads k (suc r)) B)
-unfolding unread
-unread_norm [] reads B k r l h e b = absurd (omega arith)
-unread_norm (s ∷ A) [] B k r l h e b = absurd (omega arith)
-unread_norm (s ∷ A) (q ∷ reads) B zero r l h e b =
-    ap (λ (x : List Term). norm (x ++ unread A reads B)) (ap (λ i. row s (drop i B)) e ∙ row_next s B r b)
-    ∙ norm_cons (term_times s (term_at B r)) (row s (drop (suc r) B) ++ unread A reads B)
-unread_norm (s ∷ A) (q ∷ reads) B (suc k) r l h e b =
-    omega (arith, norm_append (row s (drop q B)) (unread A reads B), norm_append (row s (drop q B)) (unread A (set reads k (suc r)) B), unread_norm A reads B k r (omega arith) (omega arith) e b)
-
-pub unread_within : (A : List Term) (reads : List ℕ) (B : List Term) → norm (unread A reads B) ≤ norm (times A B)
-unfolding unread times
-unread_within [] reads B = omega arith
-unread_within (s ∷ A) [] B = omega (arith, norm_nil)
-unread_within (s ∷ A) (r ∷ reads) B =
-    omega (arith, norm_append (row s (drop r B)) (unread A reads B), norm_append (row s B) (times A B), norm_row_drop s B r, unread_within A reads B)
 
 pub unread_over : (n : ℕ) (A : List Term) (reads : List ℕ) (B : List Term) → Over n A → Over n B → Over n (unread A reads B)
 unfolding unread Over
@@ -108,16 +40,6 @@ unread_over n (s ∷ A) (r ∷ reads) B a b = join (row s (drop r B)) (unread A 
     join : (X Y : List Term) → Over n X → Over n Y → Over n (X ++ Y)
     join [] Y x y = y
     join (t ∷ X) Y x y = (x.0, join X Y x.1 y)
-
-pub unread_below : (ord : Order) (n : ℕ) (A : List Term) (reads : List ℕ) (B : List Term) (x : List ℕ) → Over n B → Decreasing ord B
-    → ((k : ℕ) → k < length A → reads_of reads k < length B → Below ord ((term_at A k).monomial ⋅ (term_at B (reads_of reads k)).monomial) x)
-    → AllBelow ord x (unread A reads B)
-unfolding unread AllBelow
-unread_below ord n [] reads B x o d h = tt
-unread_below ord n (s ∷ A) [] B x o d h = tt
-unread_below ord n (s ∷ A) (r ∷ reads) B x o d h =
-    AllBelow-append ord x (row s (drop r B)) (unread A reads B) (below_row ord n s B r x o d (h 0 (omega arith)))
-    (unread_below ord n A reads B x o d (λ k l q. h (suc k) (omega arith) q))
 
 pub unread_length : (A : List Term) (reads : List ℕ) (B : List Term) → length reads ≡ length A → ((k : ℕ) → reads_of reads k ≤ length B) → sum reads + length (unread A reads B) ≡ length A * length B
 unfolding unread
@@ -175,8 +97,3 @@ terms_skip ord p n t F U o u s z =
     none : (b : Bool) → cond b t.coefficient (pos 0) ≡ pos 0
     none true = z
     none false = refl
-
--- no list of products of rows is above a bound on the product of the norms
-pub all_within : (T : List Term) (first stride n : ℕ) (reads : List ℕ) (B : List Term) (h : ℕ) → 0 < stride → norm T * norm B ≤ h → norm (unread (strided T first stride n) reads B) ≤ h
-all_within T first stride n reads B h l b =
-    omega (arith, b, unread_within (strided T first stride n) reads B, norm_times (strided T first stride n) B, mul-le-mul_right (norm B) (norm-strided T first stride n l))

@@ -5,6 +5,7 @@ mod merge;
 mod quotient_rows;
 mod rows;
 mod sequential;
+mod waiting;
 
 pub use merge::{RowMerge, RowSet};
 pub use quotient_rows::QuotientRows;

@@ -1,9 +1,9 @@
 //! The terms of a worker's part of a product.
-ghost use Rattle.std.specs.Prelude.{◌≡◌, ◌+◌, ◌-◌, ◌*◌, ◌^◌, ◌<◌, ◌≤◌, ℕ, [], ◌∷◌, length, IfOk, IfSome, MatchOption};
+ghost use Rattle.std.specs.Prelude.{◌≡◌, ◌+◌, ◌-◌, ◌*◌, ◌^◌, ◌<◌, ◌≤◌, ℕ, [], ◌∷◌, length, All, IfOk, IfSome, MatchOption};
 ghost use Rattle.sdmp_laws.specs.Poly.{terms, part};
 ghost use Rattle.sdmp_laws.specs.Limits.{HasRoom};
-ghost use Rattle.canonical_terms.specs.View.{term_of};
-ghost use Rattle.row_merge.specs.Rows.{IsCounted};
+ghost use Rattle.canonical_terms.specs.View.{term_of, sum_of};
+ghost use Rattle.row_merge.specs.Rows.{strided, InRange, IsCounted};
 ghost use Rattle.row_merge.specs.Part.{Remaining, row_count};
 
 use crate::rows::Rows;
@@ -30,14 +30,17 @@ pub struct RowSet<'a, R: CoeffRing, M: Monomial> {
 #[derive(Drop)]
 pub struct RowMerge<'a, R: CoeffRing, M: Monomial> {
     set: RowSet<'a, R, M>,
+    // the terms of f that are the worker's rows
+    part: Vec<Term<R, M>>,
     rows: Rows<M>,
 }
 
 impl<'a, R: CoeffRing, M: Monomial> Model for RowMerge<'a, R, M> {
     ghost use Rattle.sdmp_laws.specs.Poly.{terms};
+    ghost use Rattle.canonical_terms.specs.View.{sum_of};
     ghost use Rattle.row_merge.specs.Rows.{strided, unread, made, entered};
     ghost use Rattle.row_merge.specs.Part.{Remaining, IsPart};
-    ghost use Rattle.std.specs.Prelude.{length};
+    ghost use Rattle.std.specs.Prelude.{length, All};
 
     ghost Value = { Remaining };
 
@@ -52,11 +55,11 @@ impl<'a, R: CoeffRing, M: Monomial> Model for RowMerge<'a, R, M> {
       entered = entered m.rows.reads.items m.rows.heap;
     } };
 
-    ghost invariant = { λ m. IsPart M.vector M.LIM m.set.f.now.modulus m.set.g.now.modulus m.set.f.now.list m.set.g.now.list m.set.workers m.set.worker m.rows.first m.rows.stride m.rows.reads.items m.rows.heap m.rows.begun };
+    ghost invariant = { λ m. IsPart M.vector M.order M.VARS M.LIM m.set.f.now.modulus m.set.g.now.modulus m.set.f.now.list m.set.g.now.list m.set.workers m.set.worker (sum_of M.vector R.value m.part.items) m.rows.reads.items m.rows.heap m.rows.begun × All (λ t. R.belongs m.set.f.now.modulus t.coef) m.part.items };
 }
 
 impl<'a, R: CoeffRing, M: Monomial> RowMerge<'a, R, M> {
-    /// The merge of rows of which nothing was read. Only want of memory is refused, which more than 2^32 - 1 rows or terms of g are.
+    /// The merge of rows of which nothing was read, whose terms it copies side by side. Only want of memory is refused, which more than 2^32 - 1 rows are.
     pub fn new(alloc: Global, set: RowSet<'a, R, M>) -> Result<RowMerge<'a, R, M>, NoMemory>
         requires worker { set.worker < set.workers }
         requires modulus { set.f.now.modulus ≡ set.g.now.modulus }
@@ -68,12 +71,11 @@ impl<'a, R: CoeffRing, M: Monomial> RowMerge<'a, R, M> {
     {
         let first = set.worker as usize;
         let stride = set.workers as usize;
-        if set.g.terms().len() > u32::MAX as usize {
-            return Err(NoMemory);
-        }
-        let count = set.f.terms().len().saturating_sub(first).div_ceil(stride);
-        let rows = Rows::new(alloc, first, stride, count)?;
-        Ok(RowMerge { set, rows })
+        let terms = set.f.terms();
+        let count = terms.len().saturating_sub(first).div_ceil(stride);
+        let part = strided_terms::<R, M>(alloc, terms, first, stride, count)?;
+        let rows = Rows::new(alloc, count)?;
+        Ok(RowMerge { set, part, rows })
     }
 
     /// The next term of the part's sum, and None exactly at its end. It allocates nothing.
@@ -96,9 +98,32 @@ impl<'a, R: CoeffRing, M: Monomial> RowMerge<'a, R, M> {
         ensures products { IsCounted steps.old.products (self.new.made - self.old.made) steps.new.products }
     {
         let ring = self.set.f.ring();
-        let f = self.set.f.terms();
         let g = self.set.g.terms();
-        self.rows.start::<R>(f, g, steps);
-        self.rows.next_term(ring, f, g, steps)
+        self.rows.start::<R>(&self.part, g, steps);
+        self.rows.next_term(ring, &self.part, g, steps)
     }
+}
+
+// the terms at so many places, `stride` apart
+fn strided_terms<R: CoeffRing, M: Monomial>(
+    alloc: Global,
+    terms: &[Term<R, M>],
+    first: usize,
+    stride: usize,
+    count: usize,
+) -> Result<Vec<Term<R, M>>, NoMemory>
+    requires range { InRange first stride count (length terms.now) }
+    ensures terms { IfOk result (λ part. sum_of M.vector R.value part.items ≡ strided (sum_of M.vector R.value terms.now) first stride count) }
+    ensures belongs { IfOk result (λ part. (p : ℕ) → All (λ t. R.belongs p t.coef) terms.now → All (λ t. R.belongs p t.coef) part.items) }
+{
+    let mut part = Vec::new(alloc);
+    if part.reserve(count).is_err() {
+        return Err(NoMemory);
+    }
+    for slot in 0..count {
+        let Ok(()) = part.push(terms[first + stride * slot]) else {
+            return Err(NoMemory);
+        };
+    }
+    Ok(part)
 }

@@ -13,7 +13,7 @@ use sdmp_laws::NoMemory;
 use std::alloc::Global;
 use step_count::Steps;
 
-/// The product of two polynomials that has room. Only want of memory is refused, which more than 2^32 - 1 terms of a factor are.
+/// The product of two polynomials that has room. Only want of memory is refused, which more than 2^32 - 1 terms of the shorter factor are.
 ///
 /// Each term of the shorter factor is a row, so that the heap is small.
 pub fn product<R: CoeffRing, M: Monomial>(

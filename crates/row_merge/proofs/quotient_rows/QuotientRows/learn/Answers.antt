@@ -49,7 +49,7 @@ invariant_of-self g c =
     let inside : g.R.CoeffRing.belongs (g.R.CoeffRing.characteristic c.self.inside.ring) c.args.term.coef = subst (λ (s : QuotientState). g.R.CoeffRing.belongs s.modulus c.args.term.coef) (sym c.self.view_is) c.requires.belongs in
     let moved : IsMoved g.M.Monomial.vector 0 (product_at (sum_of g.M.Monomial.vector g.R.CoeffRing.value c.self.inside.rows.items) ((sum_of g.M.Monomial.vector g.R.CoeffRing.value c.self.inside.learned.items) ++ (term_of g.M.Monomial.vector g.R.CoeffRing.value c.args.term) ∷ []) 0 c.len-known.result) (IsTrue c.has_read-first.result) c.self.inside.heap c.insert_if.new.heap =
     subst (λ (A : List Term). IsMoved g.M.Monomial.vector 0 (product_at (sum_of g.M.Monomial.vector g.R.CoeffRing.value c.self.inside.rows.items) A 0 c.len-known.result) (IsTrue c.has_read-first.result) c.self.inside.heap c.insert_if.new.heap) (ap (sum_of g.M.Monomial.vector g.R.CoeffRing.value) c.deref-3.ensures.value ∙ sums)
-    (subst (λ (A : List Term). IsMoved g.M.Monomial.vector 0 (product_at A (sum_of g.M.Monomial.vector g.R.CoeffRing.value c.deref-3.result.now) 0 c.len-known.result) (IsTrue c.has_read-first.result) c.self.inside.heap c.insert_if.new.heap) (ap (sum_of g.M.Monomial.vector g.R.CoeffRing.value) c.deref-2.ensures.value) c.insert_if.ensures) in
+    (subst (λ (A : List Term). IsMoved g.M.Monomial.vector 0 (product_at A (sum_of g.M.Monomial.vector g.R.CoeffRing.value c.deref-3.result.now) 0 c.len-known.result) (IsTrue c.has_read-first.result) c.self.inside.heap c.insert_if.new.heap) (ap (sum_of g.M.Monomial.vector g.R.CoeffRing.value) c.deref-2.ensures.value) c.insert_if.ensures.moved) in
     let test = subst (λ (l : List ℕ). (IsTrue c.has_read-first.result → (0 < length l) × (get_or l 0 0 ≡ c.len-known.result)) × ((0 < length l) × (get_or l 0 0 ≡ c.len-known.result) → IsTrue c.has_read-first.result)) c.deref.ensures.value (c.has_read-first.ensures.0, c.has_read-first.ensures.1) in (
       c.self.invariant.0,
       record {

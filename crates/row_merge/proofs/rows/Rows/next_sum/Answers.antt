@@ -1,145 +1,101 @@
-use Rattle.std.proofs.Common.{◌≡◌, ℕ, ◌+◌, ◌*◌, ◌≤◌, List, ℤ, length, refl, sym, ap, subst, ◌∙◌, arith, le_refl, Option, None, []}
-use Rattle.std.specs.Prelude.{MatchOption}
-use Rattle.std.proofs.lemmas.List.{length-map}
+use Rattle.std.proofs.Common.{◌≡◌, ℕ, ◌+◌, ◌*◌, ◌≤◌, length, Some, None, refl, sym, ap, ◌∙◌, arith, le_refl}
+use Rattle.std.proofs.Math.Nat.{mul_comm}
 use Rattle.std.proofs.Math.Path.{transport}
-use Rattle.sdmp_laws.specs.Order.{Order}
-use Rattle.sdmp_laws.specs.Poly.{Term}
-use Rattle.sdmp_laws.specs.Ring.{red}
-use Rattle.sdmp_laws.specs.Limits.{greatest_norm}
-use Rattle.chained_heap.specs.declared.node.Place.{Place}
-use Rattle.chained_heap.specs.Shape.{taken_at, is_at, count_at}
+use Rattle.std.proofs.lemmas.List.{with_items_is, length-map}
+use Rattle.std.specs.List.{sum_by}
+use Rattle.std.specs.Vec.{with_items}
+use Rattle.sdmp_laws.specs.Poly.{norm}
 use Rattle.canonical_terms.specs.View.{term_of, sum_of}
-use Rattle.row_merge.specs.Rows.{strided, made, Standing, IsEdge, IsUnder, IsRead, IsRows, IsSum, entered, taken_rows}
-use Rattle.row_merge.proofs.Falls.{falling_rows}
-use Rattle.row_merge.proofs.Unread.{all_within}
-use Rattle.row_merge.proofs.Tops.{Compares, stands_taken, under_taken, rest_below, none_left, stands_anywhere, taken_count, present_count, top_counts, top_begun, none_count}
-use Rattle.row_merge.proofs.Sums.{summing_begins, summing_more, sum_within}
+use Rattle.chained_heap.specs.Shape.{taken_at, is_at, present, count_at}
+use Rattle.row_merge.specs.Learned.{left_to_read, TakesOut}
+use Rattle.row_merge.specs.Rows.{unread, made, entered, taken_rows}
+use Rattle.row_merge.proofs.Places.{empty_has_none}
+use Rattle.row_merge.proofs.Places as places
+use Rattle.row_merge.proofs.Keeps.{degrees_of, left_norm, move_rows}
+use Rattle.row_merge.proofs.Moves.{none_taken}
+use Rattle.row_merge.proofs.Counts.{taken_count, present_count, top_counts}
+use Rattle.row_merge.proofs.Sums.{left_is, sum_of_out}
 use Rattle.row_merge.proofs.rows.Rows.next_sum.Given as given
 use Rattle.row_merge.proofs.rows.Rows.next_sum.Goals as goal
 
-laws : (g : given.Over) → Compares g.M.Ord.cmp g.M.Monomial.order g.M.Monomial.vector g.M.Monomial.VARS
+laws : (g : given.Over) → places.AreOrdered g.M.Monomial.vector g.M.Monomial.order g.M.Monomial.VARS g.M.Ord.cmp
 laws g =
     let monos = g.met.M.Monomial g.world.𝓛 g.world.𝓜 g.world.𝓡 ((λ s x. x), (λ x. x), (λ x. x), λ x. x) in
-    record { ordered = monos.ordered; vars = monos.vars }
+    record { vars = monos.vars; ordered = monos.ordered }
 
--- what is read, of rows that are known otherwise
-read_at : {M : Type 0} (ord : Order) (vector : M → List ℕ) (p : ℕ) (B : List Term) (reads reads' : List ℕ) (ps ps' : List (Place M)) (begun begun' : ℕ) (v : ℤ) {A A' : List Term} → A' ≡ A
-    → ((x : List ℕ) → Standing vector A' B reads ps begun x → IsEdge A' reads begun → (c : ℤ) × (v ≡ red p c) × IsRead ord vector A' B reads ps reads' ps' begun' x c)
-    → (x : List ℕ) → Standing vector A B reads ps begun x → IsEdge A reads begun → (c : ℤ) × (v ≡ red p c) × IsRead ord vector A B reads ps reads' ps' begun' x c
-read_at ord vector p B reads reads' ps ps' begun begun' v a h =
-    transport (λ i. (x : List ℕ) → Standing vector (a i) B reads ps begun x → IsEdge (a i) reads begun → (c : ℤ) × (v ≡ red p c) × IsRead ord vector (a i) B reads ps reads' ps' begun' x c) h
+pub returns-in-None-clause-sum : goal.returns-in-None-clause-sum
+returns-in-None-clause-sum g c =
+    let A = (sum_of g.M.Monomial.vector g.R.CoeffRing.value c.args.terms.now) in
+    let B = (sum_of g.M.Monomial.vector g.R.CoeffRing.value c.args.columns.now) in
+    let h = c.in-None.ensures.places in (
+      sym (left_is B c.args.self.now.reads.items A) ∙ empty_has_none g.M.Monomial.vector g.M.Monomial.order g.M.Monomial.VARS g.M.Ord.cmp B A c.args.self.now.reads.items c.args.self.now.heap c.requires.rows c.requires.terms_fall.decreasing c.requires.terms_fall.vectors c.requires.columns_fall.decreasing c.requires.columns_fall.vectors h.0,
+      refl,
+      h.1,
+    )
 
-at_none : {X : Type 0} (o : Option X) (P : Type 0) (Q : X → Type 0) → o ≡ None → P → MatchOption o P Q
-at_none o P Q e h = subst (λ r. MatchOption r P Q) (sym e) h
+pub sum_at-requires-clause-taken : goal.sum_at-requires-clause-taken
+sum_at-requires-clause-taken g c κs within =
+    let A = (sum_of g.M.Monomial.vector g.R.CoeffRing.value c.args.terms.now) in
+    let B = (sum_of g.M.Monomial.vector g.R.CoeffRing.value c.args.columns.now) in
+    move_rows g.M.Monomial.vector g.M.Monomial.order (Some (g.M.Monomial.vector c.in-Some.mono)) B B A A c.args.self.now.reads.items _ _ _ refl refl (sym c.deref_mut.ensures.value) (sym c.in-Some.ensures.places.1)
+    (places.taken_rows g.M.Monomial.vector g.M.Monomial.order g.M.Monomial.VARS g.M.Ord.cmp (laws g) B A c.args.self.now.reads.items c.args.self.now.heap c.in-Some.mono c.requires.rows c.in-Some.ensures.places.0)
 
-pub returns-in_err-mono-clause-sum : goal.returns-in_err-mono-clause-sum
-returns-in_err-mono-clause-sum g c =
-    let p = c.in_err-mono.ensures.places in
-    let n = none_left g.M.Monomial.vector (strided (sum_of g.M.Monomial.vector g.R.CoeffRing.value c.args.terms.now) c.args.self.now.first c.args.self.now.stride (length c.args.self.now.reads.items)) (sum_of g.M.Monomial.vector g.R.CoeffRing.value c.args.columns.now) c.args.self.now.reads.items c.args.self.now.heap c.args.self.now.begun c.requires.rows c.requires.started p.0 in
-    at_none c.from_residual.result _ _ c.from_residual.ensures (n, refl, p.1, refl)
+pub sum_at-requires-clause-rows_low : goal.sum_at-requires-clause-rows_low
+sum_at-requires-clause-rows_low g c κs within = degrees_of g.M.Monomial.vector g.R.CoeffRing.value g.M.Monomial.LIM g.M.Monomial.LIM c.args.terms.now (le_refl _) c.requires.terms_fall.degrees
 
-pub returns-in_err-mono-clause-products : goal.returns-in_err-mono-clause-products
-returns-in_err-mono-clause-products g c = let e = c.take_top.ensures.products in (omega (arith, e), omega (arith, e))
+pub sum_at-requires-clause-learned_low : goal.sum_at-requires-clause-learned_low
+sum_at-requires-clause-learned_low g c κs within = degrees_of g.M.Monomial.vector g.R.CoeffRing.value g.M.Monomial.LIM g.M.Monomial.LIM c.args.columns.now (le_refl _) c.requires.columns_fall.degrees
 
-pub loop-product-init : goal.loop-product-init
-loop-product-init g c =
-    let t = c.in_ok-mono.ensures.places in
-    let rows = c.requires.rows in
-    record {
-      place = (refl, refl);
-      belongs = c.zero-coef.ensures.belongs;
-      sum = summing_begins g.M.Monomial.order g.M.Monomial.vector (g.R.CoeffRing.characteristic c.args.ring) (strided (sum_of g.M.Monomial.vector g.R.CoeffRing.value c.args.terms.now) c.args.self.now.first c.args.self.now.stride (length c.args.self.now.reads.items)) (sum_of g.M.Monomial.vector g.R.CoeffRing.value c.args.columns.now) c.args.self.now.reads.items c.take_top.new.self c.args.self.now.begun (g.M.Monomial.vector c.in_ok-mono.mono) (g.R.CoeffRing.value c.zero-coef.result)
-          (subst (λ hs. Standing g.M.Monomial.vector (strided (sum_of g.M.Monomial.vector g.R.CoeffRing.value c.args.terms.now) c.args.self.now.first c.args.self.now.stride (length c.args.self.now.reads.items)) (sum_of g.M.Monomial.vector g.R.CoeffRing.value c.args.columns.now) c.args.self.now.reads.items hs c.args.self.now.begun (g.M.Monomial.vector c.in_ok-mono.mono)) (sym t.1) (stands_taken (laws g) (strided (sum_of g.M.Monomial.vector g.R.CoeffRing.value c.args.terms.now) c.args.self.now.first c.args.self.now.stride (length c.args.self.now.reads.items)) (sum_of g.M.Monomial.vector g.R.CoeffRing.value c.args.columns.now) c.args.self.now.reads.items c.args.self.now.heap c.args.self.now.begun c.in_ok-mono.mono rows))
-          rows.edge
-          (subst (λ hs. IsUnder g.M.Monomial.order g.M.Monomial.vector hs (g.M.Monomial.vector c.in_ok-mono.mono)) (sym t.1) (under_taken (laws g) (strided (sum_of g.M.Monomial.vector g.R.CoeffRing.value c.args.terms.now) c.args.self.now.first c.args.self.now.stride (length c.args.self.now.reads.items)) (sum_of g.M.Monomial.vector g.R.CoeffRing.value c.args.columns.now) c.args.self.now.heap c.in_ok-mono.mono t.0))
-          c.zero-coef.ensures.value
-          (λ z. all_within (sum_of g.M.Monomial.vector g.R.CoeffRing.value c.args.terms.now) c.args.self.now.first c.args.self.now.stride (length c.args.self.now.reads.items) c.args.self.now.reads.items (sum_of g.M.Monomial.vector g.R.CoeffRing.value c.args.columns.now) greatest_norm c.requires.stride (c.requires.room z));
-      compares = λ k b. le_refl _;
-      products = (omega arith, omega arith);
-    }
+pub sum_at-requires-clause-fits : goal.sum_at-requires-clause-fits
+sum_at-requires-clause-fits g c κs within = λ z.
+    let A = (sum_of g.M.Monomial.vector g.R.CoeffRing.value c.args.terms.now) in
+    let B = (sum_of g.M.Monomial.vector g.R.CoeffRing.value c.args.columns.now) in
+    omega (arith, left_norm B c.deref_mut.result.now A, mul_comm (norm B) (norm A), c.requires.room z)
 
-pub add-coef-requires-clause-room : goal.add-coef-requires-clause-room
-add-coef-requires-clause-room g c =
+-- what the rows have read after the call
+read_after : (g : given.Over) (c : goal.After-self-1 g) → (with_items c.args.self.now.reads c.sum_at.new.reads).items ≡ c.sum_at.new.reads
+read_after g c = with_items_is c.args.self.now.reads c.sum_at.new.reads (omega (arith, c.sum_at.auto.reads, c.deref_mut.ensures.len))
+
+pub returns-in-Some-clause-rows : goal.returns-in-Some-clause-rows
+returns-in-Some-clause-rows g c =
+    move_rows g.M.Monomial.vector g.M.Monomial.order None (sum_of g.M.Monomial.vector g.R.CoeffRing.value c.args.columns.now) (sum_of g.M.Monomial.vector g.R.CoeffRing.value c.args.columns.now) (sum_of g.M.Monomial.vector g.R.CoeffRing.value c.args.terms.now) (sum_of g.M.Monomial.vector g.R.CoeffRing.value c.args.terms.now) c.sum_at.new.reads _ c.sum_at.new.heap c.sum_at.new.heap refl refl (sym (read_after g c)) refl c.sum_at.ensures.rows
+
+pub returns-in-Some-clause-sum : goal.returns-in-Some-clause-sum
+returns-in-Some-clause-sum g c =
+    let A = (sum_of g.M.Monomial.vector g.R.CoeffRing.value c.args.terms.now) in
+    let B = (sum_of g.M.Monomial.vector g.R.CoeffRing.value c.args.columns.now) in
     let rings = g.met.R.CoeffRing g.world.𝓛 g.world.𝓜 g.world.𝓡 ((λ s x. x), (λ x. x), (λ x. x), λ x. x) in
-    let inv = c.loop-product.invariant in
-    let same : strided (sum_of g.M.Monomial.vector g.R.CoeffRing.value c.args.terms.now) c.loop-product.self.first c.loop-product.self.stride (length c.loop-product.self.reads.items) ≡ (strided (sum_of g.M.Monomial.vector g.R.CoeffRing.value c.args.terms.now) c.args.self.now.first c.args.self.now.stride (length c.args.self.now.reads.items)) = (λ i. strided (sum_of g.M.Monomial.vector g.R.CoeffRing.value c.args.terms.now) (inv.place.0 i) (inv.place.1 i) (inv.sum.long i)) in
-    let r = read_at g.M.Monomial.order g.M.Monomial.vector (g.R.CoeffRing.characteristic c.args.ring) (sum_of g.M.Monomial.vector g.R.CoeffRing.value c.args.columns.now) c.loop-product.self.reads.items c.next_product.new.self.reads.items c.loop-product.self.heap c.next_product.new.self.heap c.loop-product.self.begun c.next_product.new.self.begun (g.R.CoeffRing.value c.in-Some.product) same c.in-Some.ensures.read (g.M.Monomial.vector c.in_ok-mono.mono) inv.sum.stands inv.sum.edge in
-    rings.has_room c.args.ring _ (λ z. sum_within (g.R.CoeffRing.characteristic c.args.ring) greatest_norm (g.R.CoeffRing.value c.loop-product.coef) r.0 (g.R.CoeffRing.value c.in-Some.product) _ _ r.1 inv.sum.norms r.2.norms z)
-
-pub loop-product-smaller : goal.loop-product-smaller
-loop-product-smaller g c =
-    let inv = c.loop-product.invariant in
-    let same : strided (sum_of g.M.Monomial.vector g.R.CoeffRing.value c.args.terms.now) c.loop-product.self.first c.loop-product.self.stride (length c.loop-product.self.reads.items) ≡ (strided (sum_of g.M.Monomial.vector g.R.CoeffRing.value c.args.terms.now) c.args.self.now.first c.args.self.now.stride (length c.args.self.now.reads.items)) = (λ i. strided (sum_of g.M.Monomial.vector g.R.CoeffRing.value c.args.terms.now) (inv.place.0 i) (inv.place.1 i) (inv.sum.long i)) in
-    let r = read_at g.M.Monomial.order g.M.Monomial.vector (g.R.CoeffRing.characteristic c.args.ring) (sum_of g.M.Monomial.vector g.R.CoeffRing.value c.args.columns.now) c.loop-product.self.reads.items c.next_product.new.self.reads.items c.loop-product.self.heap c.next_product.new.self.heap c.loop-product.self.begun c.next_product.new.self.begun (g.R.CoeffRing.value c.in-Some.product) same c.in-Some.ensures.read (g.M.Monomial.vector c.in_ok-mono.mono) inv.sum.stands inv.sum.edge in
-    omega (arith, r.2.fewer)
-
-pub loop-product-preserved : goal.loop-product-preserved
-loop-product-preserved g c =
-    let inv = c.loop-product.invariant in
-    let same : strided (sum_of g.M.Monomial.vector g.R.CoeffRing.value c.args.terms.now) c.loop-product.self.first c.loop-product.self.stride (length c.loop-product.self.reads.items) ≡ (strided (sum_of g.M.Monomial.vector g.R.CoeffRing.value c.args.terms.now) c.args.self.now.first c.args.self.now.stride (length c.args.self.now.reads.items)) = (λ i. strided (sum_of g.M.Monomial.vector g.R.CoeffRing.value c.args.terms.now) (inv.place.0 i) (inv.place.1 i) (inv.sum.long i)) in
-    let r = read_at g.M.Monomial.order g.M.Monomial.vector (g.R.CoeffRing.characteristic c.args.ring) (sum_of g.M.Monomial.vector g.R.CoeffRing.value c.args.columns.now) c.loop-product.self.reads.items c.next_product.new.self.reads.items c.loop-product.self.heap c.next_product.new.self.heap c.loop-product.self.begun c.next_product.new.self.begun (g.R.CoeffRing.value c.in-Some.product) same c.in-Some.ensures.read (g.M.Monomial.vector c.in_ok-mono.mono) inv.sum.stands inv.sum.edge in
-    let e = c.in-Some.ensures in
-    record {
-      place = (e.place.0 ∙ inv.place.0, e.place.1 ∙ inv.place.1);
-      belongs = c.add-coef.ensures.belongs;
-      sum = summing_more g.M.Monomial.order g.M.Monomial.vector (g.R.CoeffRing.characteristic c.args.ring) (strided (sum_of g.M.Monomial.vector g.R.CoeffRing.value c.args.terms.now) c.args.self.now.first c.args.self.now.stride (length c.args.self.now.reads.items)) (sum_of g.M.Monomial.vector g.R.CoeffRing.value c.args.columns.now) c.args.self.now.reads.items c.take_top.new.self c.args.self.now.begun (g.M.Monomial.vector c.in_ok-mono.mono) c.loop-product.self.reads.items c.next_product.new.self.reads.items c.loop-product.self.heap c.next_product.new.self.heap c.loop-product.self.begun c.next_product.new.self.begun
-          (g.R.CoeffRing.value c.loop-product.coef) r.0 (g.R.CoeffRing.value c.in-Some.product) (g.R.CoeffRing.value c.add-coef.result) inv.sum r.2 e.begun r.1 c.add-coef.ensures.value;
-      compares = λ k b. omega (arith, e.compares k (omega (arith, b, inv.sum.wide)), inv.compares k b);
-      products = (omega (arith, inv.products.0, inv.sum.grows, r.2.counts, e.products), omega (arith, inv.products.1, inv.sum.grows, r.2.counts, e.products));
-    }
-
-pub returns-clause-rows : goal.returns-clause-rows
-returns-clause-rows g c =
-    let e = c.in_default.ensures.read in
-    let sum = c.loop-product.invariant.sum in
-    let rows : IsRows g.M.Monomial.vector (strided (sum_of g.M.Monomial.vector g.R.CoeffRing.value c.args.terms.now) c.args.self.now.first c.args.self.now.stride (length c.args.self.now.reads.items)) (sum_of g.M.Monomial.vector g.R.CoeffRing.value c.args.columns.now) c.loop-product.self.reads.items c.loop-product.self.heap c.loop-product.self.begun = record {
-      stands = stands_anywhere g.M.Monomial.vector (strided (sum_of g.M.Monomial.vector g.R.CoeffRing.value c.args.terms.now) c.args.self.now.first c.args.self.now.stride (length c.args.self.now.reads.items)) (sum_of g.M.Monomial.vector g.R.CoeffRing.value c.args.columns.now) c.loop-product.self.reads.items c.loop-product.self.heap c.loop-product.self.begun (g.M.Monomial.vector c.in_ok-mono.mono) [] sum.stands e.0;
-      quiet = e.0;
-      edge = sum.edge;
-    } in
-    transport (λ i. IsRows g.M.Monomial.vector (strided (sum_of g.M.Monomial.vector g.R.CoeffRing.value c.args.terms.now) c.args.self.now.first c.args.self.now.stride (length c.args.self.now.reads.items)) (sum_of g.M.Monomial.vector g.R.CoeffRing.value c.args.columns.now) (sym e.1 i) (sym e.2 i) (sym e.3 i)) rows
-
-pub returns-clause-sum : goal.returns-clause-sum
-returns-clause-sum g c =
-    let rings = g.met.R.CoeffRing g.world.𝓛 g.world.𝓜 g.world.𝓡 ((λ s x. x), (λ x. x), (λ x. x), λ x. x) in
-    let t = c.in_ok-mono.ensures.places in
-    let e = c.in_default.ensures.read in
-    let sum = c.loop-product.invariant.sum in
-    let begun = top_begun (laws g) (strided (sum_of g.M.Monomial.vector g.R.CoeffRing.value c.args.terms.now) c.args.self.now.first c.args.self.now.stride (length c.args.self.now.reads.items)) (sum_of g.M.Monomial.vector g.R.CoeffRing.value c.args.columns.now) c.args.self.now.reads.items c.args.self.now.heap c.args.self.now.begun c.in_ok-mono.mono c.requires.rows t.0 in
-    subst (λ rs. IsSum g.M.Monomial.order (g.R.CoeffRing.characteristic c.args.ring) g.M.Monomial.VARS (strided (sum_of g.M.Monomial.vector g.R.CoeffRing.value c.args.terms.now) c.args.self.now.first c.args.self.now.stride (length c.args.self.now.reads.items)) (sum_of g.M.Monomial.vector g.R.CoeffRing.value c.args.columns.now) c.args.self.now.reads.items rs (term_of g.M.Monomial.vector g.R.CoeffRing.value (record { mono = c.in_ok-mono.mono; coef = c.loop-product.coef }))) (sym e.1)
-    (record {
-      vector = (laws g).vars c.in_ok-mono.mono;
-      reduced = rings.reduced c.args.ring c.loop-product.coef c.loop-product.invariant.belongs;
-      same = sum.same;
-      below = rest_below g.M.Monomial.vector (strided (sum_of g.M.Monomial.vector g.R.CoeffRing.value c.args.terms.now) c.args.self.now.first c.args.self.now.stride (length c.args.self.now.reads.items)) (sum_of g.M.Monomial.vector g.R.CoeffRing.value c.args.columns.now) g.M.Monomial.order g.M.Monomial.VARS g.M.Monomial.LIM c.loop-product.self.reads.items c.loop-product.self.heap c.loop-product.self.begun (g.M.Monomial.vector c.in_ok-mono.mono) (g.M.Monomial.vector c.in_ok-mono.mono)
-          (falling_rows (term_of g.M.Monomial.vector g.R.CoeffRing.value) g.M.Monomial.order g.M.Monomial.VARS g.M.Monomial.LIM c.args.terms.now c.args.self.now.first c.args.self.now.stride (length c.args.self.now.reads.items) c.requires.terms_fall c.requires.stride c.requires.range)
-          c.requires.columns_fall sum.stands e.0 sum.edge sum.under (omega (arith, begun, sum.begins));
-    })
+    sum_of_out g.M.Monomial.order (g.R.CoeffRing.characteristic c.args.ring) g.M.Monomial.VARS A B c.args.self.now.reads.items _ (term_of g.M.Monomial.vector g.R.CoeffRing.value c.sum_at.result) ((laws g).vars c.sum_at.result.mono) (rings.reduced c.args.ring c.sum_at.result.coef c.sum_at.ensures.belongs)
+    (transport (λ i. TakesOut g.M.Monomial.order (g.R.CoeffRing.characteristic c.args.ring) ((ap (λ rs. left_to_read B rs A) c.deref_mut.ensures.value ∙ left_is B c.args.self.now.reads.items A) i) ((left_is B c.sum_at.new.reads A ∙ ap (λ rs. unread A rs B) (sym (read_after g c))) i) (term_of g.M.Monomial.vector g.R.CoeffRing.value c.sum_at.result)) c.sum_at.ensures.out)
 
 -- how many products were made
-made_is : (g : given.Over) (c : goal.In_default g) → made c.next_product.new.self.reads.items ≡ made c.args.self.now.reads.items + count_at (is_at g.M.Ord.cmp c.in_ok-mono.mono) c.args.self.now.heap
+made_is : (g : given.Over) (c : goal.After-self-1 g) → made (with_items c.args.self.now.reads c.sum_at.new.reads).items ≡ made c.args.self.now.reads.items + count_at (is_at g.M.Ord.cmp c.in-Some.mono) c.args.self.now.heap
 made_is g c =
-    let t = c.in_ok-mono.ensures.places in
-    let e = c.in_default.ensures.read in
-    let sum = c.loop-product.invariant.sum in
-    omega (arith, ap made e.1, sum.counts, none_count c.loop-product.self.heap e.0, ap taken_rows t.1, taken_count (laws g) (strided (sum_of g.M.Monomial.vector g.R.CoeffRing.value c.args.terms.now) c.args.self.now.first c.args.self.now.stride (length c.args.self.now.reads.items)) (sum_of g.M.Monomial.vector g.R.CoeffRing.value c.args.columns.now) c.in_ok-mono.mono c.args.self.now.heap c.requires.rows.quiet)
+    let t = c.in-Some.ensures.places in
+    omega (arith, ap made (read_after g c), c.sum_at.ensures.reads, ap made c.deref_mut.ensures.value, ap taken_rows t.1, taken_count g.M.Ord.cmp c.in-Some.mono c.args.self.now.heap (none_taken g.M.Monomial.vector g.M.Monomial.order (sum_of g.M.Monomial.vector g.R.CoeffRing.value c.args.columns.now) (sum_of g.M.Monomial.vector g.R.CoeffRing.value c.args.terms.now) c.args.self.now.reads.items c.args.self.now.heap c.requires.rows))
 
-pub returns-clause-more : goal.returns-clause-more
-returns-clause-more g c =
-    let t = c.in_ok-mono.ensures.places in
-    let m = made_is g c in
-    omega (arith, m, top_counts (laws g) (strided (sum_of g.M.Monomial.vector g.R.CoeffRing.value c.args.terms.now) c.args.self.now.first c.args.self.now.stride (length c.args.self.now.reads.items)) (sum_of g.M.Monomial.vector g.R.CoeffRing.value c.args.columns.now) c.in_ok-mono.mono c.args.self.now.heap t.0)
+pub returns-in-Some-clause-more : goal.returns-in-Some-clause-more
+returns-in-Some-clause-more g c = omega (arith, made_is g c, top_counts g.M.Ord.cmp c.in-Some.mono c.args.self.now.heap c.in-Some.ensures.places.0)
 
-compares_are : (l n st tk old E0 E1 El En m0 m1 k : ℕ) → n + l * El ≤ st + l * En → st + l * E1 ≤ tk + l * El → tk ≤ old + 2 * l * k → E1 ≡ E0 → m1 ≡ m0 + k → n + l * E0 + 2 * l * m0 ≤ old + l * En + 2 * l * m1
-compares_are l n st tk old E0 E1 El En m0 m1 k a b d e f = omega (arith, a, b, d, ap (λ (q : ℕ). l * q) e, ap (λ (q : ℕ). 2 * l * q) f)
+compares_are : (l n tk old E0 E1 En m0 m1 k : ℕ) → n + l * E1 ≤ tk + l * En → tk ≤ old + 2 * l * k → E1 ≡ E0 → m1 ≡ m0 + k → n + l * E0 + 2 * l * m0 ≤ old + l * En + 2 * l * m1
+compares_are l n tk old E0 E1 En m0 m1 k b d e f = omega (arith, b, d, ap (λ (q : ℕ). l * q) e, ap (λ (q : ℕ). 2 * l * q) f)
 
-pub returns-clause-compares : goal.returns-clause-compares
-returns-clause-compares g c = λ l b.
-    let t = c.in_ok-mono.ensures.places in
-    let sum = c.loop-product.invariant.sum in
-    let long : length c.take_top.new.self ≡ length c.args.self.now.heap = ap length t.1 ∙ length-map c.args.self.now.heap (taken_at g.M.Ord.cmp c.in_ok-mono.mono) in
-    let present : entered c.args.self.now.reads.items c.take_top.new.self ≡ entered c.args.self.now.reads.items c.args.self.now.heap = ap (entered c.args.self.now.reads.items) t.1 ∙ ap (λ q. made c.args.self.now.reads.items + q) (present_count (laws g) (strided (sum_of g.M.Monomial.vector g.R.CoeffRing.value c.args.terms.now) c.args.self.now.first c.args.self.now.stride (length c.args.self.now.reads.items)) (sum_of g.M.Monomial.vector g.R.CoeffRing.value c.args.columns.now) c.in_ok-mono.mono c.args.self.now.heap) in
-    compares_are l c.next_product.new.steps.compares c.loop-product.steps.compares c.take_top.new.steps.compares c.args.steps.now.compares
-    (entered c.args.self.now.reads.items c.args.self.now.heap) (entered c.args.self.now.reads.items c.take_top.new.self) (entered c.loop-product.self.reads.items c.loop-product.self.heap) (entered c.next_product.new.self.reads.items c.next_product.new.self.heap)
-    (made c.args.self.now.reads.items) (made c.next_product.new.self.reads.items) (count_at (is_at g.M.Ord.cmp c.in_ok-mono.mono) c.args.self.now.heap)
-    (c.in_default.ensures.compares l (omega (arith, sum.wide, long, b))) (c.loop-product.invariant.compares l (omega (arith, long, b))) (c.in_ok-mono.ensures.compares l b) present (made_is g c)
+pub returns-in-Some-clause-compares : goal.returns-in-Some-clause-compares
+returns-in-Some-clause-compares g c = λ l b.
+    let t = c.in-Some.ensures.places in
+    let long : length c.take_top.new.self ≡ length c.args.self.now.heap = ap length t.1 ∙ length-map c.args.self.now.heap (taken_at g.M.Ord.cmp c.in-Some.mono) in
+    let before : entered c.deref_mut.result.now c.take_top.new.self ≡ entered c.args.self.now.reads.items c.args.self.now.heap = (λ i. made (c.deref_mut.ensures.value i) + sum_by present (t.1 i)) ∙ ap (λ (q : ℕ). made c.args.self.now.reads.items + q) (present_count g.M.Ord.cmp c.in-Some.mono c.args.self.now.heap) in
+    let after : entered c.sum_at.new.reads c.sum_at.new.heap ≡ entered (with_items c.args.self.now.reads c.sum_at.new.reads).items c.sum_at.new.heap = ap (λ rs. entered rs c.sum_at.new.heap) (sym (read_after g c)) in
+    let s : c.sum_at.new.steps.compares + l * entered c.deref_mut.result.now c.take_top.new.self ≤ c.take_top.new.steps.compares + l * entered c.sum_at.new.reads c.sum_at.new.heap = c.sum_at.ensures.compares l (omega (arith, long, b)) in
+    compares_are l c.sum_at.new.steps.compares c.take_top.new.steps.compares c.args.steps.now.compares
+    (entered c.args.self.now.reads.items c.args.self.now.heap) (entered c.deref_mut.result.now c.take_top.new.self) (entered (with_items c.args.self.now.reads c.sum_at.new.reads).items c.sum_at.new.heap)
+    (made c.args.self.now.reads.items) (made (with_items c.args.self.now.reads c.sum_at.new.reads).items) (count_at (is_at g.M.Ord.cmp c.in-Some.mono) c.args.self.now.heap)
+    (omega (arith, s, ap (λ (q : ℕ). l * q) after)) (c.in-Some.ensures.compares l b) before (made_is g c)
+
+pub returns-in-Some-clause-products : goal.returns-in-Some-clause-products
+returns-in-Some-clause-products g c =
+    let p = c.sum_at.ensures.products in
+    let a = ap made (read_after g c) in
+    let b = ap made c.deref_mut.ensures.value in
+    let t = c.take_top.ensures.products in
+    (omega (arith, p.0, a, b, t), omega (arith, p.1, a, b, t))

@@ -1,4 +1,11 @@
-use Rattle.std.proofs.Common.{◌≡◌, ◌+◌, ◌<◌, ℕ, ℤ, ◌*ℤ◌, List, ◌∷◌, length, get_or, set, None, unsigned_abs, sym, ap, ◌∙◌, subst, arith}
+use Rattle.std.proofs.Common.{◌≡◌, ◌+◌, ◌*◌, ◌<◌, ℕ, ℤ, ◌*ℤ◌, List, ◌∷◌, length, get_or, set, sum, None, unsigned_abs, refl, sym, ap, ◌∙◌, subst, arith, le_refl}
+use Rattle.std.specs.List.{sum_by}
+use Rattle.std.proofs.lemmas.List.{length-set}
+use Rattle.chained_heap.specs.declared.node.Place.{Place}
+use Rattle.chained_heap.specs.declared.node.Place.TheVariants.{Out}
+use Rattle.chained_heap.specs.Shape.{present}
+use Rattle.row_merge.specs.Rows.{made, taken_rows}
+use Rattle.row_merge.proofs.Counts.{made_read, taken_out, present_out, none_count, step_compares}
 use Rattle.std.specs.List.Sorted.{IsPermutation}
 use Rattle.std.proofs.lemmas.List.Elements.{All-get_or}
 use Rattle.sdmp_laws.specs.Ring.{red}
@@ -7,13 +14,17 @@ use Rattle.row_merge.specs.Learned.{left_to_read, AreRows}
 use Rattle.row_merge.proofs.RowLists.{over_sum, long_sum}
 use Rattle.row_merge.proofs.Places.{untaken_rows, left_below, all_below}
 use Rattle.row_merge.proofs.ProductSums.{Summing, sum_begins, sum_more, sum_size, product_size, fewer_left, sum_ends, taken_row, taken_product, taken_split, taken_mono, coefs_of}
-use Rattle.row_merge.proofs.quotient_rows.sum_at.Goals as goal
+use Rattle.row_merge.proofs.waiting.sum_at.Goals as goal
 
 pub loop-row-init : goal.loop-row-init
 loop-row-init g c = record {
   rows = c.requires.taken;
   summing = subst (λ (z : ℤ). Summing g.M.Monomial.order (g.R.CoeffRing.characteristic c.args.ring) (g.M.Monomial.vector c.args.mono) (left_to_read (sum_of g.M.Monomial.vector g.R.CoeffRing.value c.args.learned.now) c.args.reads.now (sum_of g.M.Monomial.vector g.R.CoeffRing.value c.args.rows.now)) (left_to_read (sum_of g.M.Monomial.vector g.R.CoeffRing.value c.args.learned.now) c.args.reads.now (sum_of g.M.Monomial.vector g.R.CoeffRing.value c.args.rows.now)) z) (sym c.zero-coef.ensures.value) (sum_begins g.M.Monomial.order (g.R.CoeffRing.characteristic c.args.ring) (g.M.Monomial.vector c.args.mono) (left_to_read (sum_of g.M.Monomial.vector g.R.CoeffRing.value c.args.learned.now) c.args.reads.now (sum_of g.M.Monomial.vector g.R.CoeffRing.value c.args.rows.now)));
   in_ring = c.zero-coef.ensures.belongs;
+  counts = refl;
+  grows = omega arith;
+  compares = λ k b. le_refl _;
+  products = (omega arith, omega arith);
 }
 
 pub offset_bounds-learned-reads : goal.offset_bounds-learned-reads
@@ -111,11 +122,20 @@ loop-row-preserved g c =
     let mono : (taken_product (sum_of g.M.Monomial.vector g.R.CoeffRing.value c.args.learned.now) (sum_of g.M.Monomial.vector g.R.CoeffRing.value c.args.rows.now) c.loop-row.reads c.in-Some.row).monomial ≡ (g.M.Monomial.vector c.args.mono) = taken_mono g.M.Monomial.vector g.M.Monomial.order (g.M.Monomial.vector c.args.mono) (sum_of g.M.Monomial.vector g.R.CoeffRing.value c.args.learned.now) (sum_of g.M.Monomial.vector g.R.CoeffRing.value c.args.rows.now) c.loop-row.reads c.loop-row.heap c.in-Some.row rows h e.1 in
     let coefs : g.R.CoeffRing.value (get_or c.args.rows.now c.in-Some.row c.index-rows-at.result).coef *ℤ g.R.CoeffRing.value (get_or c.args.learned.now (get_or c.loop-row.reads c.in-Some.row 0) c.index-learned-reads.result).coef ≡ (taken_product (sum_of g.M.Monomial.vector g.R.CoeffRing.value c.args.learned.now) (sum_of g.M.Monomial.vector g.R.CoeffRing.value c.args.rows.now) c.loop-row.reads c.in-Some.row).coefficient =
     coefs_of g.M.Monomial.vector g.R.CoeffRing.value c.args.rows.now c.args.learned.now c.loop-row.reads c.in-Some.row c.index-rows-at.result c.index-learned-reads.result hr hl in
+    let inv = c.loop-row.invariant in
+    let made : made c.move_on.new.reads ≡ made c.loop-row.reads + 1 = ap made c.move_on.ensures.reads ∙ made_read c.loop-row.reads c.in-Some.row (omega (arith, h, rows.reads_count)) in
+    let taken : taken_rows c.pop_taken.new.self + 1 ≡ taken_rows c.loop-row.heap = omega (arith, ap taken_rows e.2, taken_out c.loop-row.heap c.in-Some.row e.0 e.1) in
     record {
       rows = c.move_on.ensures.rows (g.M.Monomial.vector c.args.mono) c.loop-row.heap (record { rows_are = rows; among = h; taken = e.1; out = e.2 });
       summing = subst (λ (reads : List ℕ). Summing g.M.Monomial.order (g.R.CoeffRing.characteristic c.args.ring) (g.M.Monomial.vector c.args.mono) (left_to_read (sum_of g.M.Monomial.vector g.R.CoeffRing.value c.args.learned.now) c.args.reads.now (sum_of g.M.Monomial.vector g.R.CoeffRing.value c.args.rows.now)) (left_to_read (sum_of g.M.Monomial.vector g.R.CoeffRing.value c.args.learned.now) reads (sum_of g.M.Monomial.vector g.R.CoeffRing.value c.args.rows.now)) (g.R.CoeffRing.value c.add-coef.result)) (sym c.move_on.ensures.reads)
           (sum_more g.M.Monomial.order (g.R.CoeffRing.characteristic c.args.ring) (g.M.Monomial.vector c.args.mono) (left_to_read (sum_of g.M.Monomial.vector g.R.CoeffRing.value c.args.learned.now) c.args.reads.now (sum_of g.M.Monomial.vector g.R.CoeffRing.value c.args.rows.now)) (left_to_read (sum_of g.M.Monomial.vector g.R.CoeffRing.value c.args.learned.now) c.loop-row.reads (sum_of g.M.Monomial.vector g.R.CoeffRing.value c.args.rows.now)) (left_to_read (sum_of g.M.Monomial.vector g.R.CoeffRing.value c.args.learned.now) (set c.loop-row.reads c.in-Some.row (get_or c.loop-row.reads c.in-Some.row 0 + 1)) (sum_of g.M.Monomial.vector g.R.CoeffRing.value c.args.rows.now)) (taken_product (sum_of g.M.Monomial.vector g.R.CoeffRing.value c.args.learned.now) (sum_of g.M.Monomial.vector g.R.CoeffRing.value c.args.rows.now) c.loop-row.reads c.in-Some.row) (g.R.CoeffRing.value c.loop-row.coef) (g.R.CoeffRing.value c.mul-product.result) (g.R.CoeffRing.value c.add-coef.result) c.loop-row.invariant.summing split mono (c.mul-product.ensures.value ∙ ap (red (g.R.CoeffRing.characteristic c.args.ring)) coefs) c.add-coef.ensures.value);
       in_ring = c.add-coef.ensures.belongs;
+      counts = omega (arith, inv.counts, made, taken, c.move_on.ensures.taken);
+      grows = omega (arith, inv.grows, made);
+      compares = λ k b. step_compares k c.args.steps.now.compares c.loop-row.steps.compares c.move_on.new.steps.compares (sum c.args.reads.now) (sum c.loop-row.reads) (sum c.move_on.new.reads) (sum_by present c.args.heap.now) (sum_by present c.loop-row.heap) (sum_by present c.pop_taken.new.self) (sum_by present c.move_on.new.heap)
+          (inv.compares k b) (omega (arith, ap (sum_by present) e.2, present_out c.loop-row.heap c.in-Some.row e.0 e.1)) made
+          (let m = c.move_on.ensures.compares k (omega (arith, b, ap length e.2, length-set c.loop-row.heap c.in-Some.row Out, rows.places_count, c.requires.taken.places_count)) in omega (arith, m, c.mul-product.ensures.compares));
+      products = (omega (arith, inv.products.0, inv.grows, made, c.mul-product.ensures.products, c.move_on.ensures.products), omega (arith, inv.products.1, inv.grows, made, c.mul-product.ensures.products, c.move_on.ensures.products));
     }
 
 pub returns-clause-out : goal.returns-clause-out
@@ -129,3 +149,9 @@ pub returns-clause-rows : goal.returns-clause-rows
 returns-clause-rows g c =
     let none = c.in_default.ensures in
     subst (λ places. AreRows g.M.Monomial.vector g.M.Monomial.order None (sum_of g.M.Monomial.vector g.R.CoeffRing.value c.args.learned.now) (sum_of g.M.Monomial.vector g.R.CoeffRing.value c.args.rows.now) c.loop-row.reads places) (sym none.1) (untaken_rows g.M.Monomial.vector g.M.Monomial.order (g.M.Monomial.vector c.args.mono) (sum_of g.M.Monomial.vector g.R.CoeffRing.value c.args.learned.now) (sum_of g.M.Monomial.vector g.R.CoeffRing.value c.args.rows.now) c.loop-row.reads c.loop-row.heap c.loop-row.invariant.rows none.0)
+
+pub returns-clause-reads : goal.returns-clause-reads
+returns-clause-reads g c = omega (arith, c.loop-row.invariant.counts, none_count c.loop-row.heap c.in_default.ensures.0)
+
+pub returns-clause-compares : goal.returns-clause-compares
+returns-clause-compares g c = λ l b. omega (arith, c.loop-row.invariant.compares l b, ap (λ (ps : List (Place _)). l * (made c.loop-row.reads + sum_by present ps)) c.in_default.ensures.1)

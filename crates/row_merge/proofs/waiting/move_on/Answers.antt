@@ -1,9 +1,13 @@
 use Rattle.std.proofs.Common.{ℕ, length, arith, ltb-true, lt-ltb}
 use Rattle.std.proofs.Math.Facts.{Fits-of_lt}
+use Rattle.std.specs.List.{sum_by}
+use Rattle.chained_heap.specs.Shape.{present}
 use Rattle.canonical_terms.specs.View.{sum_of}
+use Rattle.row_merge.proofs.Counts.{two_insertions}
+use Rattle.row_merge.proofs.Moves.{moved_count}
 use Rattle.row_merge.proofs.RowLists.{over_sum, long_sum}
 use Rattle.row_merge.proofs.Popped.{popped_read, popped_top, may_open, may_follow, moved_on}
-use Rattle.row_merge.proofs.quotient_rows.move_on.Goals as goal
+use Rattle.row_merge.proofs.waiting.move_on.Goals as goal
 
 pub overflow_add-reads : goal.overflow_add-reads
 overflow_add-reads g c =
@@ -36,7 +40,7 @@ insert_if-requires-2-clause-within g c κs within = λ o.
     let L = sum_of g.M.Monomial.vector g.R.CoeffRing.value c.args.learned.now in
     let rows = sum_of g.M.Monomial.vector g.R.CoeffRing.value c.args.rows.now in
     let q = may_follow g.M.Monomial.vector g.M.Monomial.order g.M.Monomial.VARS L rows c.args.reads.now c.args.heap.now c.insert_if.new.heap c.insert_if.new.heap c.args.row (length c.args.learned.now) c.top_of-top.result _ ℕ
-    c.requires.popped c.insert_if.ensures (c.has_read-behind.ensures.0 o) in
+    c.requires.popped c.insert_if.ensures.moved (c.has_read-behind.ensures.0 o) in
     (omega (arith, q.0, long_sum g.M.Monomial.vector g.R.CoeffRing.value c.args.rows.now), omega (arith, q.1, long_sum g.M.Monomial.vector g.R.CoeffRing.value c.args.learned.now), q.2, q.3)
 
 pub returns-clause-rows : goal.returns-clause-rows
@@ -46,4 +50,9 @@ returns-clause-rows g c =
     let rows = sum_of g.M.Monomial.vector g.R.CoeffRing.value c.args.rows.now in
     moved_on g.M.Monomial.vector g.M.Monomial.order g.M.Monomial.VARS L rows c.args.reads.now c.args.heap.now c.insert_if.new.heap c.insert_if-2.new.heap c.args.row (length c.args.learned.now) c.top_of-top.result _ _
     c.requires.rows_fall (over_sum g.M.Monomial.vector g.R.CoeffRing.value g.M.Monomial.VARS monos.vars c.args.rows.now) c.requires.learned_fall (over_sum g.M.Monomial.vector g.R.CoeffRing.value g.M.Monomial.VARS monos.vars c.args.learned.now)
-    c.requires.popped (long_sum g.M.Monomial.vector g.R.CoeffRing.value c.args.learned.now) c.top_of-top.ensures (λ o. ltb-true _ _ o) (λ l. lt-ltb _ _ l) c.has_read-behind.ensures.0 c.has_read-behind.ensures.1 c.insert_if.ensures c.insert_if-2.ensures
+    c.requires.popped (long_sum g.M.Monomial.vector g.R.CoeffRing.value c.args.learned.now) c.top_of-top.ensures (λ o. ltb-true _ _ o) (λ l. lt-ltb _ _ l) c.has_read-behind.ensures.0 c.has_read-behind.ensures.1 c.insert_if.ensures.moved c.insert_if-2.ensures.moved
+
+pub returns-clause-compares : goal.returns-clause-compares
+returns-clause-compares g c = λ l b.
+    two_insertions l c.args.steps.now.compares c.insert_if.new.steps.compares c.insert_if-2.new.steps.compares (sum_by present c.args.heap.now) (sum_by present c.insert_if.new.heap) (sum_by present c.insert_if-2.new.heap)
+    (c.insert_if.ensures.compares l b) (c.insert_if-2.ensures.compares l (omega (arith, b, moved_count g.M.Monomial.vector c.args.row _ _ c.args.heap.now c.insert_if.new.heap c.insert_if.ensures.moved)))
