@@ -1,3 +1,4 @@
 pub mod OutsideLemmas
 pub mod AnswerLemmas
 pub mod SummaryLemmas
+pub mod DivisionLemmas

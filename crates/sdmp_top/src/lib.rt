@@ -4,6 +4,7 @@
 mod answering;
 mod demo;
 mod dispatch;
+mod division;
 mod intake;
 mod memory;
 mod outside;

@@ -1,11 +1,12 @@
-//! The arithmetic of the sessions: a product's room is checked, and one thread makes it.
+//! The arithmetic of the sessions on one thread, and its products: a product's room is checked before it is made.
 ghost use Rattle.std.specs.Prelude.{◌≡◌, ℕ, List, IfOk, IfErr};
 ghost use Rattle.sdmp_laws.specs.Poly.{Term as TermOfSum};
 ghost use Rattle.bound_check.specs.Bounds.{IsPassed};
 ghost use Rattle.calc_session.specs.Product.{IsProduct, IsRefused};
 
+use crate::division::{quotient, remainder};
 use bound_check::{Bound, product_room};
-use calc_session::{Arithmetic, LineFault};
+use calc_session::{Arithmetic, Divided, LineFault};
 use canonical_terms::Poly;
 use coeff_residue::Residues;
 use coeff_ring::{CoeffRing, Integers};
@@ -26,6 +27,24 @@ impl<const N: usize> Arithmetic<Integers, Packed<N>> for Sequential {
     ) -> Result<Poly<Integers, Packed<N>>, LineFault> {
         product(alloc, f, g)
     }
+
+    fn quotient(
+        &self,
+        alloc: Global,
+        f: &Poly<Integers, Packed<N>>,
+        g: &Poly<Integers, Packed<N>>,
+    ) -> Result<Option<Poly<Integers, Packed<N>>>, LineFault> {
+        quotient(alloc, f, g)
+    }
+
+    fn remainder(
+        &self,
+        alloc: Global,
+        f: &Poly<Integers, Packed<N>>,
+        g: &Poly<Integers, Packed<N>>,
+    ) -> Result<Divided<Poly<Integers, Packed<N>>>, LineFault> {
+        remainder(alloc, f, g)
+    }
 }
 
 impl<const N: usize> Arithmetic<Residues, Packed<N>> for Sequential {
@@ -36,6 +55,24 @@ impl<const N: usize> Arithmetic<Residues, Packed<N>> for Sequential {
         g: &Poly<Residues, Packed<N>>,
     ) -> Result<Poly<Residues, Packed<N>>, LineFault> {
         product(alloc, f, g)
+    }
+
+    fn quotient(
+        &self,
+        alloc: Global,
+        f: &Poly<Residues, Packed<N>>,
+        g: &Poly<Residues, Packed<N>>,
+    ) -> Result<Option<Poly<Residues, Packed<N>>>, LineFault> {
+        quotient(alloc, f, g)
+    }
+
+    fn remainder(
+        &self,
+        alloc: Global,
+        f: &Poly<Residues, Packed<N>>,
+        g: &Poly<Residues, Packed<N>>,
+    ) -> Result<Divided<Poly<Residues, Packed<N>>>, LineFault> {
+        remainder(alloc, f, g)
     }
 }
 

@@ -1,31 +1,53 @@
+ghost use Rattle.std.specs.Prelude.{◌<◌};
+
 use crate::{CountSink, MemorySink, MemorySource, Status, SteadySource, run};
 use std::alloc::Global;
 use std::test::Fail;
 
-// The status of a session, and what it writes. The source fails at the call `failing_read`, and the sink at the call `failing_write`, where it takes 3 bytes a write.
+mod broken;
+mod divisions;
+mod large;
+
+// What a run on a session meets: the read and the write that fail, and what the sink takes in all and at a time.
+struct Ends {
+    failing_read: Option<u64>,
+    room: usize,
+    chunk: usize,
+    failing_write: Option<u64>,
+}
+
+const STEADY: Ends = Ends {
+    failing_read: None,
+    room: 1_000_000,
+    chunk: 4096,
+    failing_write: None,
+};
+
+fn only(alloc: Global, call: Option<u64>) -> Result<Vec<u64>, Fail> {
+    let mut calls = Vec::new(alloc);
+    if let Some(call) = call {
+        calls.push(call)?;
+    }
+    Ok(calls)
+}
+
+// The text that a run on a session writes, and its status.
 fn answer(
     alloc: Global,
     session: &[u8],
     words: &str,
-    failing_read: Option<u64>,
-    failing_write: Option<u64>,
-) -> Result<(Vec<u8>, Status), Fail> {
+    ends: &Ends,
+) -> Result<(Vec<u8>, Status), Fail>
+    requires { 0 < ends.now.chunk }
+{
     let mut list = Vec::new(alloc);
     for word in words.split_whitespace() {
         list.push(String::from_str(alloc, word)?)?;
     }
-    let mut reads = Vec::new(alloc);
-    if let Some(call) = failing_read {
-        reads.push(call)?;
-    }
-    let mut writes = Vec::new(alloc);
-    let mut chunk = 4096;
-    if let Some(call) = failing_write {
-        writes.push(call)?;
-        chunk = 3;
-    }
+    let reads = only(alloc, ends.failing_read)?;
+    let writes = only(alloc, ends.failing_write)?;
     let mut source = MemorySource::new(session.to_vec(alloc)?, 8, reads);
-    let mut sink = MemorySink::new(alloc, 100, chunk, writes)?;
+    let mut sink = MemorySink::new(alloc, ends.room, ends.chunk, writes)?;
     let status = run(alloc, &list, &mut source, &mut sink);
     Ok((sink.bytes().to_vec(alloc)?, status))
 }
@@ -55,7 +77,7 @@ fn answers_sessions(rt: HostRuntime) -> Result<(), Fail> {
         ),
     ];
     for (session, text) in rows {
-        let (written, ended) = answer(rt.alloc(), session.as_bytes(), "", None, None)?;
+        let (written, ended) = answer(rt.alloc(), session.as_bytes(), "", &STEADY)?;
         assert_eq!(rt; written.as_slice(), text.as_bytes(), "{session}");
         assert_eq!(rt; ended, Status::Done, "{session}");
     }
@@ -83,7 +105,7 @@ fn refuses_lines(rt: HostRuntime) -> Result<(), Fail> {
         ),
     ];
     for (session, text) in rows {
-        let (written, ended) = answer(rt.alloc(), session.as_bytes(), "", None, None)?;
+        let (written, ended) = answer(rt.alloc(), session.as_bytes(), "", &STEADY)?;
         assert_eq!(rt; written.as_slice(), text.as_bytes(), "{session}");
         assert_eq!(rt; ended, Status::Refused, "{session}");
     }
@@ -115,7 +137,7 @@ fn refuses_after_lines(rt: HostRuntime) -> Result<(), Fail> {
         ),
     ];
     for (session, text) in rows {
-        let (written, ended) = answer(rt.alloc(), session.as_bytes(), "", None, None)?;
+        let (written, ended) = answer(rt.alloc(), session.as_bytes(), "", &STEADY)?;
         assert_eq!(rt; written.as_slice(), text.as_bytes(), "{session}");
         assert_eq!(rt; ended, Status::Refused, "{session}");
     }
@@ -148,7 +170,6 @@ fn names_the_first_fault(rt: HostRuntime) -> Result<(), Fail> {
         ("vars x\nring Z\nshow\n", "line 3: argument count\n"),
         ("vars x\nring Z\nvars y\n", "line 3: unknown command\n"),
         ("vars x\nring Z\nshow x\n", "line 3: unknown name\n"),
-        ("vars x\nring Z\na = x\nrem a a\n", "line 4: not built\n"),
         ("vars = 1\n", "line 1: bad name\n"),
         ("vars a b c d e f g 1\n", "line 1: variable count\n"),
         ("vars x\nring = Z\n", "line 2: ring expected\n"),
@@ -157,37 +178,9 @@ fn names_the_first_fault(rt: HostRuntime) -> Result<(), Fail> {
         ("# a=b\n\n#x\n", "line 4: vars expected\n"),
     ];
     for (session, text) in rows {
-        let (written, ended) = answer(rt.alloc(), session.as_bytes(), "", None, None)?;
+        let (written, ended) = answer(rt.alloc(), session.as_bytes(), "", &STEADY)?;
         assert_eq!(rt; written.as_slice(), text.as_bytes(), "{session}");
         assert_eq!(rt; ended, Status::Refused, "{session}");
-    }
-    Ok(())
-}
-
-#[test]
-fn stops_at_faults(rt: HostRuntime) -> Result<(), Fail> {
-    let rows = [
-        ("", Some(1), None, "", Status::ReadFault),
-        ("", None, Some(1), "x^2", Status::WriteFault),
-        ("--workers 0", None, None, "", Status::BadWords),
-        (
-            "--workers 64 --places 2",
-            None,
-            None,
-            "x^2-1\n",
-            Status::Done,
-        ),
-    ];
-    for (words, failing_read, failing_write, text, status) in rows {
-        let (written, ended) = answer(
-            rt.alloc(),
-            FIRST.as_bytes(),
-            words,
-            failing_read,
-            failing_write,
-        )?;
-        assert_eq!(rt; written.as_slice(), text.as_bytes(), "{words}");
-        assert_eq!(rt; ended, status, "{words}");
     }
     Ok(())
 }
