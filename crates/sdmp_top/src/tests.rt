@@ -9,6 +9,7 @@ mod divisions;
 mod large;
 
 // What a run on a session meets: the read and the write that fail, and what the sink takes in all and at a time.
+#[derive(Clone, Copy)]
 struct Ends {
     failing_read: Option<u64>,
     room: usize,
