@@ -1,0 +1,6 @@
+pub mod Sending
+pub mod Teams
+pub mod Steps
+pub mod Shares
+pub mod Hiring
+pub mod Bounds

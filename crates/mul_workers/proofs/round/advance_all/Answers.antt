@@ -1,0 +1,52 @@
+use Rattle.std.proofs.Common.{rules, ℕ, List, ◌<◌, get_or, map, refl, sym, subst, arith}
+use Rattle.std.proofs.lemmas.List.{length-map}
+use denote.Exit.{yes}
+use denote.Param.{copied}
+use denote.Param.Send.{param_send, arg_send}
+use mathlib.Core.List.{[]}
+use mir.Syntax.{named}
+use Rattle.term_ring.proofs.Shares.{ring_sync}
+use Rattle.global_heap.proofs.Shares.{merge_send}
+use Rattle.mul_workers.proofs.Shares.{worker_send, turnstile_sync, captures_sync}
+use Rattle.global_heap.specs.Names.{RingName, NoneBelow}
+use Rattle.global_heap.specs.Reached.{merge_name, merge_reached, NoneBelow-itself}
+use Rattle.global_heap.specs.Readers.{ring_name}
+use Rattle.mul_workers.specs.Senders.{IsAmong}
+use Rattle.mul_workers.specs.Workers.{HasPass}
+use Rattle.mul_workers.specs.Rounds.{Moves}
+use Rattle.mul_workers.proofs.Steps.{all_move}
+use Rattle.mul_workers.proofs.round.advance_all.Goals as goal
+
+pub for_each_mut-requires-send-T : goal.for_each_mut-requires-send-T
+for_each_mut-requires-send-T g c κs within =
+    let b = c.type_bounds in
+    param_send _ _ (arg_send _ yes _ (worker_send _ _ _ g.R.CoeffRing g.M.Monomial g.M.Ord g.M.PartialEq g.M.PartialOrd _ b.send-R b.send-M b.send-R-E b.sync-R b.sync-M b.sync-R-E))
+
+pub for_each_mut-requires-sync-F : goal.for_each_mut-requires-sync-F
+for_each_mut-requires-sync-F g c κs within =
+    let b = c.type_bounds in
+    let rings = ring_sync (copied 1 g.row.R) (copied 2 g.row.M) (copied 4 g.row.R-E) g.R.CoeffRing g.R.Clone g.R.E.Clone g.M.Monomial g.M.Clone g.M.Ord g.M.Eq g.M.PartialEq g.M.PartialOrd b.sync-R in
+    let turn = turnstile_sync _ record { naming = List RingName; reaching = List ℕ; name = merge_name; reached = merge_reached; follows = NoneBelow; follows_itself = NoneBelow-itself } (merge_send (copied 1 g.row.R) (copied 2 g.row.M) (copied 4 g.row.R-E) g.R.CoeffRing g.M.Monomial g.M.Ord g.M.PartialEq g.M.PartialOrd b.send-R b.send-M b.send-R-E) in
+    let all = captures_sync [] record { mir = named 7; lft = κs.1.1.1.1.1.1.1.0 } record { mir = named 8; lft = κs.1.1.1.1.1.1.1.1.0 } record { mir = named 9; lft = κs.1.1.1.1.1.1.1.1.1.0 } _ _ _ rings turn b.sync-G in
+    record { shared = all.shared }
+
+pub for_each_mut-requires-clause-accepts : goal.for_each_mut-requires-clause-accepts
+for_each_mut-requires-clause-accepts g c κs within = let b = c.type_bounds in λ i p lt is.
+    let h = subst (λ w. HasPass c.args.turnstile.now w.pass × IsAmong (map ring_name c.args.rings.now) w.sender) (sym is) (c.requires.have i p.now lt) in
+    ((h.0, c.requires.rings, h.1), search rules)
+
+pub returns-then-count-gt0-clause-have : goal.returns-then-count-gt0-clause-have
+returns-then-count-gt0-clause-have g c = λ k d lt.
+    let e = (c.for_each_mut.ensures k d (subst (λ n. k < n) c.for_each_mut.auto.s lt)).1 in
+    subst (λ w. HasPass c.args.turnstile.now w.pass) e.left e.call.0
+
+pub returns-then-count-gt0-clause-moves : goal.returns-then-count-gt0-clause-moves
+returns-then-count-gt0-clause-moves g c = all_move (λ w. w.sender) c.args.workers.now c.for_each_mut.new.s c.for_each_mut.auto.s (λ k d lt.
+    let e = (c.for_each_mut.ensures k d lt).1 in
+    subst (λ w. Moves (get_or c.args.workers.now k d).sender w.sender) e.left (subst (λ w. Moves w.sender e.after_call.now.sender) e.argument_is e.call.1))
+
+pub returns-else-count-gt0-clause-moves : goal.returns-else-count-gt0-clause-moves
+returns-else-count-gt0-clause-moves g c = record {
+  long = refl;
+  each = λ k d lt. absurd (let l = length-map c.args.workers.now (λ w. w.sender) in let z = c.if-count-gt0.false in omega arith);
+}

@@ -1,0 +1,18 @@
+use Rattle.std.proofs.Common.{◌≡◌, ◌≤◌, [], All, map, vec_len, vec_capacity}
+use Rattle.term_ring.specs.Ends.{taken}
+use Rattle.global_heap.specs.Readers.{ring_name, reader_name, IsReading}
+use Rattle.mul_workers.specs.Products.{product_of}
+use Rattle.mul_workers.proofs.Hiring.{AreHired}
+use Rattle.mul_workers.proofs.team.Team.new.Given as goal
+
+abbrev pub invariant-loop-worker : goal.invariant-loop-worker
+invariant-loop-worker g l = record {
+  below : l.worker ≤ l.workers;
+  rings : (vec_len l.rings ≡ l.worker) × (l.workers ≤ vec_capacity l.rings);
+  readers : (vec_len l.readers ≡ l.worker) × (l.workers ≤ vec_capacity l.readers);
+  team : (vec_len l.team ≡ l.worker) × (l.workers ≤ vec_capacity l.team);
+  names : map reader_name l.readers.items ≡ map ring_name l.rings.items;
+  reading : All IsReading l.readers.items;
+  taken : All (λ r. taken r ≡ []) l.readers.items;
+  hired : AreHired (product_of g.M.Monomial.order g.M.Monomial.VARS l.f l.g) l.workers (map ring_name l.rings.items) (map (λ w. w.sender) l.team.items) l.worker;
+}

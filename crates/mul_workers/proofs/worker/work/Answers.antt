@@ -1,0 +1,14 @@
+use Rattle.std.proofs.Common.{arith}
+use Rattle.mul_workers.proofs.Sending.{Sends-trans}
+use Rattle.mul_workers.proofs.worker.work.Goals as goal
+
+pub loop-pass-preserved : goal.loop-pass-preserved
+loop-pass-preserved g c =
+    let i = c.loop-pass.invariant in
+    let e = c.advance_merge-receipt.ensures in
+    record {
+      pass = e.pass;
+      entries = let a = i.entries in let b = e.entries in omega arith;
+      busy = let a = i.busy in let b = e.busy in omega arith;
+      sends = Sends-trans c.args.sender.now c.loop-pass.sender c.push.new.self i.sends (Sends-trans c.loop-pass.sender c.send.new.self c.push.new.self c.send.ensures.sends c.push.ensures.sends);
+    }

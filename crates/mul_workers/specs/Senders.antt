@@ -1,0 +1,59 @@
+-- What a worker has sent, and what a call adds to it.
+use Rattle.std.specs.Prelude.{◌≡◌, ℕ, ℤ, ◌+◌, ◌<◌, ◌≤◌, ◌^◌, ◌⊎◌, Bool, true, false, List, [], ◌∷◌, ◌++◌, length, map, slice_index_or}
+use mathlib.Core.List.{IsPrefix}
+use Rattle.sdmp_laws.specs.Poly.{Term}
+use Rattle.whole_laws.specs.Notes.{Note, TermNote, EndNote, Script, script_list}
+use Rattle.term_ring.specs.Spelling.{notes_of}
+use Rattle.term_ring.specs.Ends.{sent, head_seen}
+use Rattle.term_ring.specs.declared.ring.Writer.{Writer}
+use Rattle.term_ring.specs.declared.note.NoteOf.{NoteOf}
+use Rattle.term_ring.specs.declared.note.NoteOf.TheVariants as note
+use Rattle.global_heap.specs.Names.{RingName}
+use Rattle.global_heap.specs.Merges.{MergeView, taken_of}
+use Rattle.mul_workers.specs.Writers.{writer_name}
+
+-- the ring of its writer, its number, the notes that it sent, and the head that the writer saw last
+pub record SenderView : Type 0 where
+  pub ring : RingName
+  pub worker : ℕ
+  pub sent : List Note
+  pub head : ℕ
+
+abbrev pub sender_view : {X M E : Type 0} → (M → List ℕ) → (E → ℤ) → ℕ → Writer X M E → SenderView
+sender_view vector value worker w = record { ring = writer_name w; worker = worker; sent = notes_of vector value (sent w); head = head_seen w }
+
+-- the terms of the script, and then the end
+abbrev pub whole_script : Script → List Note
+whole_script s = map (λ (t : Term). TermNote t) (script_list s) ++ EndNote ∷ []
+
+-- all is sent
+abbrev pub IsSentWhole : SenderView → Type 0
+IsSentWhole s = s.sent ≡ whole_script s.ring.script
+
+-- why its last push was refused: when the head was loaded each place held a note that wasn't taken, or 2^63 notes were sent
+abbrev pub IsRefused : SenderView → Type 0
+IsRefused s = (s.head + s.ring.places ≡ length s.sent) ⊎ (length s.sent ≡ 2 ^ 63)
+
+-- notes were sent
+pub record Sends (a b : SenderView) : Type 0 where
+  pub ring : b.ring ≡ a.ring
+  pub worker : b.worker ≡ a.worker
+  pub sent : IsPrefix a.sent b.sent
+  pub head : a.head ≤ b.head
+
+-- its ring is the one of its number among the rings with these names
+pub record IsAmong (names : List RingName) (s : SenderView) : Type 0 where
+  pub number : s.worker < length names
+  pub ring : (d : RingName) → slice_index_or names s.worker d ≡ s.ring
+
+-- its writer and the merge's reader of its ring have met, and the merge has taken nothing since
+pub record HasMet (m : MergeView) (s : SenderView) : Type 0 where
+  pub taken : IsPrefix (taken_of m s.worker) s.sent
+  pub writer_seen : length (taken_of m s.worker) ≤ s.head
+  pub reader_seen : length s.sent ≤ slice_index_or m.tails s.worker 0
+
+-- whether a note is the end
+abbrev pub is_end : {M E : Type 0} → NoteOf M E → Bool
+is_end (note.Term t) = false
+is_end (note.Mark known top) = false
+is_end note.End = true

@@ -1,0 +1,41 @@
+-- How an advance of a worker ends.
+use Rattle.std.specs.Prelude.{◌≡◌, ℕ, ◌+◌, ◌<◌, ◌≤◌, List, Option, Some, None}
+use Rattle.whole_laws.specs.Notes.{NoEnd}
+use Rattle.turnstile.specs.Passes.{IsPassOf, IsOutside, entries, busy}
+use Rattle.turnstile.specs.declared.turn.Pass.{Pass}
+use Rattle.turnstile.specs.declared.turn.Turnstile.{Turnstile}
+use Rattle.global_heap.specs.Names.{RingName}
+use Rattle.global_heap.specs.Merges.{MergeView}
+use Rattle.global_heap.specs.declared.receipt.Advanced.{Advanced}
+use Rattle.mul_workers.specs.Senders.{SenderView, IsSentWhole, IsRefused}
+use Rattle.mul_workers.specs.declared.stop.Stop.{Stop}
+use Rattle.mul_workers.specs.declared.stop.Stop.TheVariants.{Ended, Full}
+
+-- there is a pass, of this turnstile and outside
+abbrev pub HasPass : Turnstile MergeView → Option (Pass MergeView) → Type 0
+HasPass t o = (p : Pass MergeView) × (o ≡ Some p) × IsPassOf t p × IsOutside p
+
+-- how often the pass came in, and how many of its tries found the turnstile held
+abbrev pub entries_of : Option (Pass MergeView) → ℕ
+entries_of None = 0
+entries_of (Some p) = entries p
+
+abbrev pub busy_of : Option (Pass MergeView) → ℕ
+busy_of None = 0
+busy_of (Some p) = busy p
+
+-- how often the turnstile is tried
+abbrev pub patience : ℕ
+patience = 64
+
+module _ {X M E : Type 0} where
+  -- a receipt comes of an advance in the turnstile, of a merge that reads these rings; none comes only where the turnstile was found held so often as is tried
+  abbrev pub IsReceipt : List RingName → Pass MergeView → Pass MergeView → Option (Advanced X M E) → Type 0
+  IsReceipt names p q None = busy p + patience ≤ busy q
+  IsReceipt names p q (Some x) = (entries p < entries q) × (x.merge.value.rings ≡ names)
+
+  -- why the worker stopped
+  abbrev pub IsStop : List RingName → SenderView → Option (Pass MergeView) → Option (Pass MergeView) → Stop X M E → Type 0
+  IsStop names s p q Ended = IsSentWhole s
+  IsStop names s p q (Full None) = NoEnd s.sent × IsRefused s × (busy_of p + patience ≤ busy_of q)
+  IsStop names s p q (Full (Some x)) = NoEnd s.sent × IsRefused s × (entries_of p < entries_of q) × (x.merge.value.rings ≡ names)

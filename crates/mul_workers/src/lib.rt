@@ -1,0 +1,19 @@
+//! Products by several workers, each with its part of the rows, over one shared merge.
+#![tactic(auto)]
+
+mod product;
+mod round;
+mod rounds;
+mod sender;
+mod stop;
+mod team;
+mod threaded;
+mod worker;
+
+pub use product::{MulFault, Product};
+pub use stop::Stop;
+pub use threaded::multiply;
+pub use worker::{MulWorker, PATIENCE};
+
+#[cfg(test)]
+mod tests;

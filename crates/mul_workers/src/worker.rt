@@ -1,0 +1,182 @@
+//! A worker of a product.
+ghost use Rattle.std.specs.Prelude.{◌≡◌, ◌≤◌, ℕ, map, [], Some};
+ghost use Rattle.whole_laws.specs.Notes.{Carry, script_list};
+ghost use Rattle.turnstile.specs.Passes.{made_with, IsPassOf, IsOutside, entries, busy};
+ghost use Rattle.term_ring.specs.Ends.{sent, head_seen};
+ghost use Rattle.global_heap.specs.Names.{NoneBelow};
+ghost use Rattle.global_heap.specs.Readers.{ring_name};
+ghost use Rattle.mul_workers.specs.Writers.{writer_name, IsWriting};
+ghost use Rattle.mul_workers.specs.Senders.{Sends, IsAmong, HasMet};
+ghost use Rattle.mul_workers.specs.Inside.{script_of_rows};
+ghost use Rattle.mul_workers.specs.Workers.{HasPass, IsReceipt, IsStop};
+
+use crate::sender::Sender;
+use crate::stop::Stop;
+use coeff_ring::CoeffRing;
+use global_heap::{Advanced, Merge};
+use packed_monomial::Monomial;
+use row_merge::RowMerge;
+use std::thread;
+use step_count::Steps;
+use term_ring::{Full, Ring, Writer};
+use turnstile::{Gate, Pass, Turnstile};
+
+/// How often a worker whose ring is full tries the turnstile before it gives up.
+pub const PATIENCE: u64 = 64;
+
+/// A worker of a product: what it sends and how far it has come, and its pass of the turnstile around the merge.
+#[derive(Drop)]
+pub struct MulWorker<'a, R: CoeffRing, M: Monomial> {
+    pub(crate) sender: Sender<'a, R, M>,
+    pub(crate) pass: Option<Pass<Merge<R, M>>>,
+    pub(crate) steps: Steps,
+}
+
+impl<'a, R: CoeffRing, M: Monomial> MulWorker<'a, R, M> {
+    /// A worker that has sent nothing, from rows of which nothing was handed out and the writer of a ring with their script. It allocates nothing.
+    pub fn new(
+        worker: u32,
+        rows: RowMerge<'a, R, M>,
+        writer: Writer<R, M>,
+        pass: Pass<Merge<R, M>>,
+    ) -> MulWorker<'a, R, M>
+        requires worker { worker ≡ rows.worker }
+        requires writing { IsWriting writer }
+        requires script { (writer_name writer).script ≡ script_of_rows M.order M.VARS rows }
+        requires rest { rows.rest ≡ script_list (script_of_rows M.order M.VARS rows) }
+        requires sent { sent writer ≡ [] }
+        ensures sender { result.sender ≡ record { ring = writer_name writer; worker = worker; sent = []; head = head_seen writer } }
+        ensures pass { result.pass ≡ Some pass }
+    {
+        MulWorker {
+            sender: Sender::new(worker, rows, writer),
+            pass: Some(pass),
+            steps: Steps::new(),
+        }
+    }
+
+    // a worker that gets its pass later
+    pub(crate) fn without_pass(
+        worker: u32,
+        rows: RowMerge<'a, R, M>,
+        writer: Writer<R, M>,
+    ) -> MulWorker<'a, R, M>
+        requires worker { worker ≡ rows.worker }
+        requires writing { IsWriting writer }
+        requires script { (writer_name writer).script ≡ script_of_rows M.order M.VARS rows }
+        requires rest { rows.rest ≡ script_list (script_of_rows M.order M.VARS rows) }
+        requires sent { sent writer ≡ [] }
+        ensures sender { result.sender ≡ record { ring = writer_name writer; worker = worker; sent = []; head = head_seen writer } }
+    {
+        MulWorker {
+            sender: Sender::new(worker, rows, writer),
+            pass: None,
+            steps: Steps::new(),
+        }
+    }
+
+    /// Sends the terms of the worker's part in order, and then its end, until the end is sent or the ring is full.
+    ///
+    /// Whenever the ring is full the worker tries the turnstile up to `PATIENCE` times, advances the merge once where it is let in, and pushes once more. If that push too finds the ring full, the call ends, and its note is kept for the next call. It allocates nothing.
+    pub fn advance<G: Gate>(
+        &mut self,
+        rings: &[Ring<R, M>],
+        turnstile: &Turnstile<Merge<R, M>>,
+        gate: &G,
+    ) -> Stop<R, M>
+        requires pass { HasPass turnstile.now self.old.pass }
+        requires rings { (made_with turnstile.now).rings ≡ map ring_name rings.now }
+        requires ring { IsAmong (map ring_name rings.now) self.old.sender }
+        ensures pass { HasPass turnstile.now self.new.pass }
+        ensures sends { Sends self.old.sender self.new.sender }
+        ensures carried { Carry self.new.sender.ring.script self.new.sender.sent }
+        ensures stop { IsStop (map ring_name rings.now) self.new.sender self.old.pass self.new.pass result }
+    {
+        let worker = self.sender.worker();
+        gate.arrive(worker);
+        let ring = &rings[worker as usize];
+        let Some(pass) = &mut self.pass else {
+            unreachable!()
+        };
+        work(
+            ring,
+            rings,
+            turnstile,
+            &mut self.sender,
+            pass,
+            &mut self.steps,
+        )
+    }
+
+    /// Lets the writer of the worker and the merge's reader of its ring meet, so that the merge finds what the worker has sent, and the worker the room that the merge has made. It allocates nothing.
+    pub fn meet(&mut self, rings: &[Ring<R, M>], merge: &mut Merge<R, M>)
+        requires rings { merge.old.rings ≡ map ring_name rings.now }
+        requires ring { IsAmong (map ring_name rings.now) self.old.sender }
+        ensures sends { Sends self.old.sender self.new.sender }
+        ensures sent { self.new.sender.sent ≡ self.old.sender.sent }
+        ensures pass { self.new.pass ≡ self.old.pass }
+        ensures state { merge.new.state ≡ merge.old.state }
+        ensures rings { merge.new.rings ≡ merge.old.rings }
+        ensures spare { merge.new.spare ≡ merge.old.spare }
+        ensures tails { NoneBelow merge.old.tails merge.new.tails }
+        ensures met { HasMet merge.new self.new.sender }
+    {
+        merge.whole();
+        let worker = self.sender.worker();
+        let ring = &rings[worker as usize];
+        self.sender.meet(ring, merge);
+    }
+}
+
+// Sends until the end is sent, or the ring stays full after a try of the turnstile.
+fn work<R: CoeffRing, M: Monomial>(
+    ring: &Ring<R, M>,
+    rings: &[Ring<R, M>],
+    turnstile: &Turnstile<Merge<R, M>>,
+    sender: &mut Sender<'_, R, M>,
+    pass: &mut Pass<Merge<R, M>>,
+    steps: &mut Steps,
+) -> Stop<R, M>
+    requires pass { IsPassOf turnstile.now pass.old × IsOutside pass.old }
+    requires rings { (made_with turnstile.now).rings ≡ map ring_name rings.now }
+    requires ring { ring_name ring.now ≡ sender.old.ring }
+    ensures pass { IsPassOf turnstile.now pass.new × IsOutside pass.new }
+    ensures sends { Sends sender.old sender.new }
+    ensures carried { Carry sender.new.ring.script sender.new.sent }
+    ensures stop { IsStop (map ring_name rings.now) sender.new (Some pass.old) (Some pass.new) result }
+{
+    loop {
+        let Err(Full) = sender.send(ring, steps) else {
+            return Stop::Ended;
+        };
+        let receipt = advance_merge(rings, turnstile, pass, steps);
+        if let Err(Full) = sender.push(ring, steps) {
+            return Stop::Full(receipt);
+        }
+    }
+}
+
+// Tries the turnstile, and advances the merge once where it is let in.
+fn advance_merge<R: CoeffRing, M: Monomial>(
+    rings: &[Ring<R, M>],
+    turnstile: &Turnstile<Merge<R, M>>,
+    pass: &mut Pass<Merge<R, M>>,
+    steps: &mut Steps,
+) -> Option<Advanced<R, M>>
+    requires pass { IsPassOf turnstile.now pass.old × IsOutside pass.old }
+    requires rings { (made_with turnstile.now).rings ≡ map ring_name rings.now }
+    ensures pass { IsPassOf turnstile.now pass.new × IsOutside pass.new }
+    ensures receipt { IsReceipt (map ring_name rings.now) pass.old pass.new result }
+    ensures entries { entries pass.old ≤ entries pass.new }
+    ensures busy { busy pass.old ≤ busy pass.new }
+{
+    for _ in 0..PATIENCE {
+        if let Ok(mut merge) = turnstile.try_enter(pass) {
+            let receipt = merge.advance(rings, steps);
+            turnstile.leave(pass, merge);
+            return Some(receipt);
+        }
+        thread::yield_now();
+    }
+    None
+}
