@@ -64,12 +64,12 @@ impl<R: CoeffRing, M: Monomial> Merge<R, M> {
         ensures notes { result.notes ≡ notes_count self.new.state.taken }
         ensures receipt { result.merge.value ≡ self.new }
     {
-        self.whole();
+        let before = { self.whole(); Snapshot::of(self) };
         let answer = self.run(rings, steps);
         Advanced {
             answer,
             notes: self.taken(),
-            merge: Snapshot::of(self),
+            merge: before,
         }
     }
 

@@ -8,7 +8,6 @@ mod division;
 mod intake;
 mod memory;
 mod outside;
-mod product;
 mod real;
 mod shell;
 mod status;
@@ -16,6 +15,7 @@ mod steady;
 mod stop;
 #[cfg(test)]
 mod tests;
+mod workers;
 mod writing;
 
 pub use memory::{MemorySink, MemorySource};
