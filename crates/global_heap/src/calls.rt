@@ -64,12 +64,12 @@ impl<R: CoeffRing, M: Monomial> Merge<R, M> {
         ensures notes { result.notes ≡ notes_count self.new.state.taken }
         ensures receipt { result.merge.value ≡ self.new }
     {
-        let before = { self.whole(); Snapshot::of(self) };
+        self.whole();
         let answer = self.run(rings, steps);
         Advanced {
             answer,
             notes: self.taken(),
-            merge: before,
+            merge: Snapshot::of(self),
         }
     }
 

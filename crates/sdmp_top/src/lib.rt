@@ -8,6 +8,7 @@ mod division;
 mod intake;
 mod memory;
 mod outside;
+mod product;
 mod real;
 mod shell;
 mod status;
@@ -15,7 +16,6 @@ mod steady;
 mod stop;
 #[cfg(test)]
 mod tests;
-mod workers;
 mod writing;
 
 pub use memory::{MemorySink, MemorySource};

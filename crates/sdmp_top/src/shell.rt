@@ -13,26 +13,19 @@ use crate::intake::{IntakeFault, MAX_INPUT, read_all};
 use crate::outside::{Failed, Sink, Source};
 use crate::status::Status;
 use crate::stop::Stop;
-use crate::workers::Workers;
 use crate::writing::write_all;
 use calc_session::Ending;
 use sdmp_words::{WordsFault, read_words};
 use std::alloc::Global;
-use std::thread::Threads;
-use turnstile::Gate;
 
 /// The whole run: reads the words, then the whole input, and then answers line by line. With `--demo` it reads no input, answers that of the demo, and writes a summary in place of the answers.
 ///
-/// Products are made by so many workers as the words say, in threads of their own where `threads` can make them; `gate` is where each worker arrives. The answers are the same for every order of their steps.
-///
 /// Want of memory is the one answer that may come at any time.
-pub fn run<T: Threads + Sync, S: Source, K: Sink, G: Gate>(
-    threads: &T,
+pub fn run<S: Source, K: Sink>(
     alloc: Global,
     words: &[String],
     source: &mut S,
     sink: &mut K,
-    gate: &G,
 ) -> Status
     // Where neither end fails, the input isn't too long and memory isn't wanting, exactly the answers are written.
     ensures exact { (settings : Settings) → settings_of (map string_bytes words.now) ≡ Some settings
@@ -42,6 +35,7 @@ pub fn run<T: Threads + Sync, S: Source, K: Sink, G: Gate>(
         → DidNotFail (K.faults sink.old) (K.faults sink.new) (K.at_last sink.new)
         → result ≢ Status.NoMemory
         → Answered told result (K.held sink.old) (K.held sink.new) (K.flushed sink.new) }
+
     // Done and Refused.
     ensures answered { IsAnswered result → (settings : Settings) → settings_of (map string_bytes words.now) ≡ Some settings
         → (told : Answers) → wanted settings.demo (S.left source.old) ≡ Some told
@@ -49,10 +43,12 @@ pub fn run<T: Threads + Sync, S: Source, K: Sink, G: Gate>(
     ensures flushed { IsAnswered result → K.flushed sink.new ≡ true }
     ensures ended { IsAnswered result → (settings : Settings) → settings_of (map string_bytes words.now) ≡ Some settings → settings.demo ≡ None
         → (input : List ℕ) → S.left source.old ≡ Some input → S.left source.new ≡ Some [] }
+
     // The words.
     ensures bad_words { result ≡ Status.BadWords → settings_of (map string_bytes words.now) ≡ None }
     ensures words { settings_of (map string_bytes words.now) ≡ None → (result ≡ Status.BadWords) ⊎ (result ≡ Status.NoMemory) }
     ensures untouched { result ≡ Status.BadWords → (source.new ≡ source.old) × (sink.new ≡ sink.old) }
+
     // The input.
     ensures read_fault { result ≡ Status.ReadFault → Rose (S.faults source.old) (S.faults source.new) (S.at_last source.new) }
     ensures source_steady { result ≢ Status.ReadFault → S.faults source.new ≡ S.faults source.old }
@@ -63,6 +59,7 @@ pub fn run<T: Threads + Sync, S: Source, K: Sink, G: Gate>(
         → (result ≡ Status.TooLong) ⊎ (result ≡ Status.NoMemory) }
     ensures nothing_written { (result ≡ Status.ReadFault) ⊎ (result ≡ Status.TooLong) → sink.new ≡ sink.old }
     ensures demo_unread { (settings : Settings) → settings_of (map string_bytes words.now) ≡ Some settings → settings.demo ≢ None → source.new ≡ source.old }
+
     // What has been written where the run came to no end.
     ensures write_fault { result ≡ Status.WriteFault → Rose (K.faults sink.old) (K.faults sink.new) (K.at_last sink.new) }
     ensures sink_steady { result ≢ Status.WriteFault → K.faults sink.new ≡ K.faults sink.old }
@@ -75,25 +72,17 @@ pub fn run<T: Threads + Sync, S: Source, K: Sink, G: Gate>(
     ensures no_memory_flushed { result ≡ Status.NoMemory → (K.flushed sink.new ≡ true) ⊎ (sink.new ≡ sink.old) }
 {
     match read_words(alloc, words) {
-        Ok(settings) => {
-            let by = Workers::new(threads, gate, settings);
-            match settings.demo {
-                None => run_session(alloc, &by, source, sink),
-                Some(seed) => run_demo(alloc, &by, seed, sink),
-            }
-        }
+        Ok(settings) => match settings.demo {
+            None => run_session(alloc, source, sink),
+            Some(seed) => run_demo(alloc, seed, sink),
+        },
         Err(WordsFault::BadWords) => Status::BadWords,
         Err(WordsFault::NoMemory) => Status::NoMemory,
     }
 }
 
 // Reads the whole input, and then answers line by line.
-fn run_session<T: Threads + Sync, G: Gate, S: Source, K: Sink>(
-    alloc: Global,
-    by: &Workers<'_, T, G>,
-    source: &mut S,
-    sink: &mut K,
-) -> Status
+fn run_session<S: Source, K: Sink>(alloc: Global, source: &mut S, sink: &mut K) -> Status
     ensures answered { IsAnswered result → (input : List ℕ) → S.left source.old ≡ Some input
         → Answered (answers input) result (K.held sink.old) (K.held sink.new) (K.flushed sink.new) }
     ensures flushed { IsAnswered result → K.flushed sink.new ≡ true }
@@ -125,7 +114,7 @@ fn run_session<T: Threads + Sync, G: Gate, S: Source, K: Sink>(
         Err(IntakeFault::TooLong) => return Status::TooLong,
         Err(IntakeFault::NoMemory) => return Status::NoMemory,
     };
-    match answer_input(alloc, by, &input, sink) {
+    match answer_input(alloc, &input, sink) {
         Ok(Ending::Done) => flush_after(sink, Status::Done),
         Ok(Ending::Refused) => flush_after(sink, Status::Refused),
         Err(Stop::WriteFault) => Status::WriteFault,
@@ -134,12 +123,7 @@ fn run_session<T: Threads + Sync, G: Gate, S: Source, K: Sink>(
 }
 
 // Writes the summary of the demo's answers.
-fn run_demo<T: Threads + Sync, G: Gate, K: Sink>(
-    alloc: Global,
-    by: &Workers<'_, T, G>,
-    seed: u64,
-    sink: &mut K,
-) -> Status
+fn run_demo<K: Sink>(alloc: Global, seed: u64, sink: &mut K) -> Status
     ensures answered { IsAnswered result → Answered (demo_answers seed) result (K.held sink.old) (K.held sink.new) (K.flushed sink.new) }
     ensures flushed { IsAnswered result → K.flushed sink.new ≡ true }
     ensures told { IsAnswered result ⊎ (result ≡ Status.WriteFault) ⊎ (result ≡ Status.NoMemory) }
@@ -148,7 +132,7 @@ fn run_demo<T: Threads + Sync, G: Gate, K: Sink>(
     ensures part { result ≡ Status.WriteFault → AppendsPart (K.held sink.old) (K.held sink.new) (text (demo_answers seed)) }
     ensures no_memory { result ≡ Status.NoMemory → sink.new ≡ sink.old }
 {
-    let Ok(summary) = demo_summary(alloc, by, seed) else {
+    let Ok(summary) = demo_summary(alloc, seed) else {
         return Status::NoMemory;
     };
     if write_all(sink, &summary.text).is_err() {

@@ -1,54 +1,31 @@
-//! The arithmetic of the sessions: products by workers, and divisions on the calling thread.
-ghost use Rattle.std.specs.Prelude.{◌≡◌, ◌<◌, ℕ, List, IfOk, IfErr};
+//! The arithmetic of the sessions on one thread, and its products: a product's room is checked before it is made.
+ghost use Rattle.std.specs.Prelude.{◌≡◌, ℕ, List, IfOk, IfErr};
 ghost use Rattle.sdmp_laws.specs.Poly.{Term as TermOfSum};
-ghost use Rattle.mul_workers.specs.Products.{IsRefusal};
+ghost use Rattle.bound_check.specs.Bounds.{IsPassed};
 ghost use Rattle.calc_session.specs.Product.{IsProduct, IsRefused};
-ghost use Rattle.sdmp_words.specs.Words.{AreInRange};
 
 use crate::division::{quotient, remainder};
+use bound_check::{Bound, product_room};
 use calc_session::{Arithmetic, Divided, LineFault};
 use canonical_terms::Poly;
 use coeff_residue::Residues;
 use coeff_ring::{CoeffRing, Integers};
-use mul_workers::{MulFault, multiply};
 use packed_monomial::{Monomial, Packed};
-use sdmp_words::Settings;
+use sdmp_laws::NoMemory;
 use std::alloc::Global;
-use std::thread::Threads;
-use turnstile::Gate;
 
-/// So many workers, whose rings have so many places, with the runtime that forks threads and the gate at which each worker arrives.
-#[derive(Drop)]
-pub struct Workers<'a, T: Threads + Sync, G: Gate> {
-    threads: &'a T,
-    gate: &'a G,
-    workers: u32,
-    places: u32,
-    ghost some: { (0 < workers) × (0 < places) },
-}
+/// The arithmetic of one thread.
+#[derive(Clone, Copy)]
+pub struct Sequential;
 
-impl<'a, T: Threads + Sync, G: Gate> Workers<'a, T, G> {
-    /// As many workers and places as the words set.
-    pub fn new(threads: &'a T, gate: &'a G, settings: Settings) -> Workers<'a, T, G>
-        requires { AreInRange settings }
-    {
-        Workers {
-            threads,
-            gate,
-            workers: settings.workers,
-            places: settings.places,
-        }
-    }
-}
-
-impl<T: Threads + Sync, G: Gate, const N: usize> Arithmetic<Integers, Packed<N>> for Workers<'_, T, G> {
+impl<const N: usize> Arithmetic<Integers, Packed<N>> for Sequential {
     fn product(
         &self,
         alloc: Global,
         f: &Poly<Integers, Packed<N>>,
         g: &Poly<Integers, Packed<N>>,
     ) -> Result<Poly<Integers, Packed<N>>, LineFault> {
-        product(self, alloc, f, g)
+        product(alloc, f, g)
     }
 
     fn quotient(
@@ -70,14 +47,14 @@ impl<T: Threads + Sync, G: Gate, const N: usize> Arithmetic<Integers, Packed<N>>
     }
 }
 
-impl<T: Threads + Sync, G: Gate, const N: usize> Arithmetic<Residues, Packed<N>> for Workers<'_, T, G> {
+impl<const N: usize> Arithmetic<Residues, Packed<N>> for Sequential {
     fn product(
         &self,
         alloc: Global,
         f: &Poly<Residues, Packed<N>>,
         g: &Poly<Residues, Packed<N>>,
     ) -> Result<Poly<Residues, Packed<N>>, LineFault> {
-        product(self, alloc, f, g)
+        product(alloc, f, g)
     }
 
     fn quotient(
@@ -100,8 +77,7 @@ impl<T: Threads + Sync, G: Gate, const N: usize> Arithmetic<Residues, Packed<N>>
 }
 
 /// The product of two polynomials of one modulus.
-fn product<T: Threads + Sync, G: Gate, R: CoeffRing, M: Monomial>(
-    by: &Workers<'_, T, G>,
+pub fn product<R: CoeffRing, M: Monomial>(
     alloc: Global,
     f: &Poly<R, M>,
     g: &Poly<R, M>,
@@ -111,18 +87,20 @@ fn product<T: Threads + Sync, G: Gate, R: CoeffRing, M: Monomial>(
     ensures product { IfOk result (λ h. IsProduct M.order M.LIM f.now.modulus f.now.list g.now.list h.list) }
     ensures refused { IfErr result (λ fault. IsRefused M.LIM f.now.modulus f.now.list g.now.list fault) }
 {
-    match multiply(by.threads, alloc, f, g, by.workers, by.places, by.gate) {
-        Ok(product) => Ok(product.poly),
-        Err(fault) => Err(fault_of(fault)),
+    if let Err(bound) = product_room(f, g) {
+        return Err(fault_of(bound));
+    }
+    match row_merge::product(alloc, f, g) {
+        Ok(h) => Ok(h),
+        Err(NoMemory) => Err(LineFault::NoMemory),
     }
 }
 
-fn fault_of(fault: MulFault) -> LineFault
-    ensures { (lim p : ℕ) (f g : List TermOfSum) → IsRefusal lim p f g fault → IsRefused lim p f g result }
+fn fault_of(bound: Bound) -> LineFault
+    ensures { (lim p : ℕ) (f g : List TermOfSum) → IsPassed lim p f g bound → IsRefused lim p f g result }
 {
-    match fault {
-        MulFault::DegreeBound { .. } => LineFault::DegreeBound,
-        MulFault::CoefficientBound { .. } => LineFault::CoefficientBound,
-        MulFault::NoMemory => LineFault::NoMemory,
+    match bound {
+        Bound::Degree { .. } => LineFault::DegreeBound,
+        Bound::Coefficient { .. } => LineFault::CoefficientBound,
     }
 }
