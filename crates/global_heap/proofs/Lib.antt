@@ -11,4 +11,3 @@ pub mod EmitSound
 pub mod Begun
 pub mod Taking
 pub mod Shares
-pub mod Examples
