@@ -1,5 +1,5 @@
 -- The products at one monomial are summed up, row by row.
-use Rattle.std.proofs.Common.{◌≡◌, ℕ, ◌+◌, ◌<◌, ◌≤◌, Bool, cond, List, [], ◌∷◌, ◌++◌, length, set, get_or, Some, ℤ, pos, ◌+ℤ◌, ◌*ℤ◌, unsigned_abs, sym, ap, ◌∙◌, subst, arith, All}
+use Rattle.std.proofs.Common.{◌≡◌, ℕ, ◌+◌, ◌<◌, ◌≤◌, Bool, cond, List, [], ◌∷◌, ◌++◌, length, set, get_or, Some, ℤ, pos, ◌+ℤ◌, ◌*ℤ◌, unsigned_abs, refl, sym, ap, ◌∙◌, subst, arith, All}
 use Rattle.std.specs.List.Sorted.{IsPermutation}
 use Rattle.std.proofs.lemmas.List.{map-id, get_or-map}
 use Rattle.std.proofs.lemmas.List.Elements.{All-nil, All-push}
@@ -45,13 +45,13 @@ total_push A t x e =
     total_append A (t ∷ []) x
     ∙ ap (λ (z : ℤ). total A x +ℤ z) (total_one t x ∙ ap (λ (b : Bool). cond b t.coefficient (pos 0)) (ap (λ (v : List ℕ). alike v x) e ∙ alike_self x))
 
-pub sum_more : (ord : Order) (p : ℕ) (x : List ℕ) (before left rest : List Term) (t : Term) (sum product new : ℤ) → Summing ord p x before left sum → IsPermutation left (t ∷ rest) → t.monomial ≡ x → product ≡ red p t.coefficient → new ≡ red p (sum +ℤ product) → Summing ord p x before rest new
+pub sum_more : (ord : Order) (p : ℕ) (x : List ℕ) (before left rest : List Term) (t : Term) (sum product new : ℤ) → Summing ord p x before left sum → IsPermutation left (t ∷ rest) → t.monomial ≡ x → product ≡ t.coefficient → new ≡ red p (sum +ℤ product) → Summing ord p x before rest new
 sum_more ord p x before left rest t sum product new s h e f g = record {
   taken = s.taken ++ t ∷ [];
   split = IsPermutation-pop_more before s.taken left rest t s.split h;
   at = All-push (λ (u : Term). u.monomial ≡ x) s.taken t s.at e;
   is = ap (red p) (total_push s.taken t x e)
-      ∙ sym (red_add p (red p (total s.taken x)) (total s.taken x) (red p t.coefficient) t.coefficient (red_red p (total s.taken x)) (red_red p t.coefficient))
+      ∙ sym (red_add p (red p (total s.taken x)) (total s.taken x) t.coefficient t.coefficient (red_red p (total s.taken x)) refl)
       ∙ (λ i. red p (s.is i +ℤ sym f i)) ∙ sym g;
 }
 

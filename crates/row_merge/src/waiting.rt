@@ -121,12 +121,14 @@ pub fn sum_at<R: CoeffRing, M: Monomial>(
     ensures compares { (l : ℕ) → length heap.old < 2 ^ l → steps.new.compares + l * entered reads.old heap.old ≤ steps.old.compares + l * entered reads.new heap.new }
     ensures products { IsCounted steps.old.products (made reads.new - made reads.old) steps.new.products }
 {
-    let mut coef = ring.zero();
+    let mut sum = ring.no_products();
     while let Some(row) = heap.pop_taken() {
         let at = row as usize;
-        let product = ring.mul(rows[at].coef, learned[reads[at]].coef, steps);
-        coef = ring.add(coef, product);
+        sum = ring.add_product(sum, rows[at].coef, learned[reads[at]].coef, steps);
         move_on::<R, M>(rows, learned, reads, heap, row, steps);
     }
-    TermOf { mono, coef }
+    TermOf {
+        mono,
+        coef: ring.total(sum),
+    }
 }

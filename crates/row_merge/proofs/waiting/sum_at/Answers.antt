@@ -1,4 +1,4 @@
-use Rattle.std.proofs.Common.{◌≡◌, ◌+◌, ◌*◌, ◌<◌, ℕ, ℤ, ◌*ℤ◌, List, ◌∷◌, length, get_or, set, sum, None, unsigned_abs, refl, sym, ap, ◌∙◌, subst, arith, le_refl}
+use Rattle.std.proofs.Common.{◌≡◌, ◌+◌, ◌*◌, ◌<◌, ℕ, ℤ, ◌+ℤ◌, ◌*ℤ◌, List, ◌∷◌, length, get_or, set, sum, None, unsigned_abs, refl, sym, ap, ◌∙◌, subst, arith, le_refl}
 use Rattle.std.specs.List.{sum_by}
 use Rattle.std.proofs.lemmas.List.{length-set}
 use Rattle.chained_heap.specs.declared.node.Place.{Place}
@@ -8,7 +8,6 @@ use Rattle.row_merge.specs.Rows.{made, taken_rows}
 use Rattle.row_merge.proofs.Counts.{made_read, taken_out, present_out, none_count, step_compares}
 use Rattle.std.specs.List.Sorted.{IsPermutation}
 use Rattle.std.proofs.lemmas.List.Elements.{All-get_or}
-use Rattle.sdmp_laws.specs.Ring.{red}
 use Rattle.canonical_terms.specs.View.{term_of, sum_of}
 use Rattle.row_merge.specs.Learned.{left_to_read, AreRows}
 use Rattle.row_merge.proofs.RowLists.{over_sum, long_sum}
@@ -19,8 +18,8 @@ use Rattle.row_merge.proofs.waiting.sum_at.Goals as goal
 pub loop-row-init : goal.loop-row-init
 loop-row-init g c = record {
   rows = c.requires.taken;
-  summing = subst (λ (z : ℤ). Summing g.M.Monomial.order (g.R.CoeffRing.characteristic c.args.ring) (g.M.Monomial.vector c.args.mono) (left_to_read (sum_of g.M.Monomial.vector g.R.CoeffRing.value c.args.learned.now) c.args.reads.now (sum_of g.M.Monomial.vector g.R.CoeffRing.value c.args.rows.now)) (left_to_read (sum_of g.M.Monomial.vector g.R.CoeffRing.value c.args.learned.now) c.args.reads.now (sum_of g.M.Monomial.vector g.R.CoeffRing.value c.args.rows.now)) z) (sym c.zero-coef.ensures.value) (sum_begins g.M.Monomial.order (g.R.CoeffRing.characteristic c.args.ring) (g.M.Monomial.vector c.args.mono) (left_to_read (sum_of g.M.Monomial.vector g.R.CoeffRing.value c.args.learned.now) c.args.reads.now (sum_of g.M.Monomial.vector g.R.CoeffRing.value c.args.rows.now)));
-  in_ring = c.zero-coef.ensures.belongs;
+  summing = subst (λ (z : ℤ). Summing g.M.Monomial.order (g.R.CoeffRing.characteristic c.args.ring) (g.M.Monomial.vector c.args.mono) (left_to_read (sum_of g.M.Monomial.vector g.R.CoeffRing.value c.args.learned.now) c.args.reads.now (sum_of g.M.Monomial.vector g.R.CoeffRing.value c.args.rows.now)) (left_to_read (sum_of g.M.Monomial.vector g.R.CoeffRing.value c.args.learned.now) c.args.reads.now (sum_of g.M.Monomial.vector g.R.CoeffRing.value c.args.rows.now)) z) (sym c.no_products-sum.ensures.value) (sum_begins g.M.Monomial.order (g.R.CoeffRing.characteristic c.args.ring) (g.M.Monomial.vector c.args.mono) (left_to_read (sum_of g.M.Monomial.vector g.R.CoeffRing.value c.args.learned.now) c.args.reads.now (sum_of g.M.Monomial.vector g.R.CoeffRing.value c.args.rows.now)));
+  in_ring = c.no_products-sum.ensures.belongs;
   counts = refl;
   grows = omega arith;
   compares = λ k b. le_refl _;
@@ -57,8 +56,8 @@ bounds-learned-reads-in-Some g c =
     let hl : get_or c.loop-row.reads c.in-Some.row 0 < length c.args.learned.now = omega (arith, f.0, long_sum g.M.Monomial.vector g.R.CoeffRing.value c.args.learned.now) in
     hl
 
-pub mul-product-requires-clause-right : goal.mul-product-requires-clause-right
-mul-product-requires-clause-right g c =
+pub add_product-sum-requires-clause-right : goal.add_product-sum-requires-clause-right
+add_product-sum-requires-clause-right g c =
     let e = c.in-Some.ensures in
     let rows = c.loop-row.invariant.rows in
     let h : c.in-Some.row < length (sum_of g.M.Monomial.vector g.R.CoeffRing.value c.args.rows.now) = omega (arith, e.0, rows.places_count) in
@@ -67,8 +66,8 @@ mul-product-requires-clause-right g c =
     let hl : get_or c.loop-row.reads c.in-Some.row 0 < length c.args.learned.now = omega (arith, f.0, long_sum g.M.Monomial.vector g.R.CoeffRing.value c.args.learned.now) in
     All-get_or (λ t. g.R.CoeffRing.belongs (g.R.CoeffRing.characteristic c.args.ring) t.coef) c.args.learned.now (get_or c.loop-row.reads c.in-Some.row 0) c.index-learned-reads.result hl c.requires.learned_belong
 
-pub mul-product-requires-clause-room : goal.mul-product-requires-clause-room
-mul-product-requires-clause-room g c =
+pub add_product-sum-requires-clause-product_room : goal.add_product-sum-requires-clause-product_room
+add_product-sum-requires-clause-product_room g c =
     let rings = g.met.R.CoeffRing g.world.𝓛 g.world.𝓜 g.world.𝓡 ((λ s x. x), (λ x. x), (λ x. x), λ x. x) in
     let e = c.in-Some.ensures in
     let rows = c.loop-row.invariant.rows in
@@ -81,8 +80,8 @@ mul-product-requires-clause-room g c =
     coefs_of g.M.Monomial.vector g.R.CoeffRing.value c.args.rows.now c.args.learned.now c.loop-row.reads c.in-Some.row c.index-rows-at.result c.index-learned-reads.result hr hl in
     rings.has_room c.args.ring _ (λ z. let k = ap unsigned_abs coefs in omega (arith, k, product_size g.M.Monomial.order (g.R.CoeffRing.characteristic c.args.ring) (g.M.Monomial.vector c.args.mono) (left_to_read (sum_of g.M.Monomial.vector g.R.CoeffRing.value c.args.learned.now) c.args.reads.now (sum_of g.M.Monomial.vector g.R.CoeffRing.value c.args.rows.now)) (left_to_read (sum_of g.M.Monomial.vector g.R.CoeffRing.value c.args.learned.now) c.loop-row.reads (sum_of g.M.Monomial.vector g.R.CoeffRing.value c.args.rows.now)) (left_to_read (sum_of g.M.Monomial.vector g.R.CoeffRing.value c.args.learned.now) (set c.loop-row.reads c.in-Some.row (get_or c.loop-row.reads c.in-Some.row 0 + 1)) (sum_of g.M.Monomial.vector g.R.CoeffRing.value c.args.rows.now)) (taken_product (sum_of g.M.Monomial.vector g.R.CoeffRing.value c.args.learned.now) (sum_of g.M.Monomial.vector g.R.CoeffRing.value c.args.rows.now) c.loop-row.reads c.in-Some.row) _ c.loop-row.invariant.summing split, c.requires.fits z))
 
-pub add-coef-requires-clause-room : goal.add-coef-requires-clause-room
-add-coef-requires-clause-room g c =
+pub add_product-sum-requires-clause-sum_room : goal.add_product-sum-requires-clause-sum_room
+add_product-sum-requires-clause-sum_room g c =
     let rings = g.met.R.CoeffRing g.world.𝓛 g.world.𝓜 g.world.𝓡 ((λ s x. x), (λ x. x), (λ x. x), λ x. x) in
     let e = c.in-Some.ensures in
     let rows = c.loop-row.invariant.rows in
@@ -95,9 +94,8 @@ add-coef-requires-clause-room g c =
     let coefs : g.R.CoeffRing.value (get_or c.args.rows.now c.in-Some.row c.index-rows-at.result).coef *ℤ g.R.CoeffRing.value (get_or c.args.learned.now (get_or c.loop-row.reads c.in-Some.row 0) c.index-learned-reads.result).coef ≡ (taken_product (sum_of g.M.Monomial.vector g.R.CoeffRing.value c.args.learned.now) (sum_of g.M.Monomial.vector g.R.CoeffRing.value c.args.rows.now) c.loop-row.reads c.in-Some.row).coefficient =
     coefs_of g.M.Monomial.vector g.R.CoeffRing.value c.args.rows.now c.args.learned.now c.loop-row.reads c.in-Some.row c.index-rows-at.result c.index-learned-reads.result hr hl in
     rings.has_room c.args.ring _ (λ z.
-    let s = subst (λ (q : ℕ). Summing g.M.Monomial.order q (g.M.Monomial.vector c.args.mono) (left_to_read (sum_of g.M.Monomial.vector g.R.CoeffRing.value c.args.learned.now) c.args.reads.now (sum_of g.M.Monomial.vector g.R.CoeffRing.value c.args.rows.now)) (left_to_read (sum_of g.M.Monomial.vector g.R.CoeffRing.value c.args.learned.now) c.loop-row.reads (sum_of g.M.Monomial.vector g.R.CoeffRing.value c.args.rows.now)) (g.R.CoeffRing.value c.loop-row.coef)) z c.loop-row.invariant.summing in
-    let p : g.R.CoeffRing.value c.mul-product.result ≡ (taken_product (sum_of g.M.Monomial.vector g.R.CoeffRing.value c.args.learned.now) (sum_of g.M.Monomial.vector g.R.CoeffRing.value c.args.rows.now) c.loop-row.reads c.in-Some.row).coefficient = c.mul-product.ensures.value ∙ ap (red (g.R.CoeffRing.characteristic c.args.ring)) coefs ∙ ap (λ (q : ℕ). red q (taken_product (sum_of g.M.Monomial.vector g.R.CoeffRing.value c.args.learned.now) (sum_of g.M.Monomial.vector g.R.CoeffRing.value c.args.rows.now) c.loop-row.reads c.in-Some.row).coefficient) z in
-    omega (arith, sum_size g.M.Monomial.order (g.M.Monomial.vector c.args.mono) (left_to_read (sum_of g.M.Monomial.vector g.R.CoeffRing.value c.args.learned.now) c.args.reads.now (sum_of g.M.Monomial.vector g.R.CoeffRing.value c.args.rows.now)) (left_to_read (sum_of g.M.Monomial.vector g.R.CoeffRing.value c.args.learned.now) c.loop-row.reads (sum_of g.M.Monomial.vector g.R.CoeffRing.value c.args.rows.now)) (left_to_read (sum_of g.M.Monomial.vector g.R.CoeffRing.value c.args.learned.now) (set c.loop-row.reads c.in-Some.row (get_or c.loop-row.reads c.in-Some.row 0 + 1)) (sum_of g.M.Monomial.vector g.R.CoeffRing.value c.args.rows.now)) (taken_product (sum_of g.M.Monomial.vector g.R.CoeffRing.value c.args.learned.now) (sum_of g.M.Monomial.vector g.R.CoeffRing.value c.args.rows.now) c.loop-row.reads c.in-Some.row) (g.R.CoeffRing.value c.loop-row.coef) (g.R.CoeffRing.value c.mul-product.result) s split mono p, c.requires.fits z))
+    let s = subst (λ (q : ℕ). Summing g.M.Monomial.order q (g.M.Monomial.vector c.args.mono) (left_to_read (sum_of g.M.Monomial.vector g.R.CoeffRing.value c.args.learned.now) c.args.reads.now (sum_of g.M.Monomial.vector g.R.CoeffRing.value c.args.rows.now)) (left_to_read (sum_of g.M.Monomial.vector g.R.CoeffRing.value c.args.learned.now) c.loop-row.reads (sum_of g.M.Monomial.vector g.R.CoeffRing.value c.args.rows.now)) (g.R.CoeffRing.sum_value q c.loop-row.sum)) z c.loop-row.invariant.summing in
+    omega (arith, sum_size g.M.Monomial.order (g.M.Monomial.vector c.args.mono) (left_to_read (sum_of g.M.Monomial.vector g.R.CoeffRing.value c.args.learned.now) c.args.reads.now (sum_of g.M.Monomial.vector g.R.CoeffRing.value c.args.rows.now)) (left_to_read (sum_of g.M.Monomial.vector g.R.CoeffRing.value c.args.learned.now) c.loop-row.reads (sum_of g.M.Monomial.vector g.R.CoeffRing.value c.args.rows.now)) (left_to_read (sum_of g.M.Monomial.vector g.R.CoeffRing.value c.args.learned.now) (set c.loop-row.reads c.in-Some.row (get_or c.loop-row.reads c.in-Some.row 0 + 1)) (sum_of g.M.Monomial.vector g.R.CoeffRing.value c.args.rows.now)) (taken_product (sum_of g.M.Monomial.vector g.R.CoeffRing.value c.args.learned.now) (sum_of g.M.Monomial.vector g.R.CoeffRing.value c.args.rows.now) c.loop-row.reads c.in-Some.row) (g.R.CoeffRing.sum_value 0 c.loop-row.sum) (g.R.CoeffRing.value (get_or c.args.rows.now c.in-Some.row c.index-rows-at.result).coef *ℤ g.R.CoeffRing.value (get_or c.args.learned.now (get_or c.loop-row.reads c.in-Some.row 0) c.index-learned-reads.result).coef) s split mono coefs, ap (λ (q : ℕ). unsigned_abs (g.R.CoeffRing.sum_value q c.loop-row.sum +ℤ g.R.CoeffRing.value (get_or c.args.rows.now c.in-Some.row c.index-rows-at.result).coef *ℤ g.R.CoeffRing.value (get_or c.args.learned.now (get_or c.loop-row.reads c.in-Some.row 0) c.index-learned-reads.result).coef)) z, c.requires.fits z))
 
 pub loop-row-smaller : goal.loop-row-smaller
 loop-row-smaller g c =
@@ -127,22 +125,22 @@ loop-row-preserved g c =
     let taken : taken_rows c.pop_taken.new.self + 1 ≡ taken_rows c.loop-row.heap = omega (arith, ap taken_rows e.2, taken_out c.loop-row.heap c.in-Some.row e.0 e.1) in
     record {
       rows = c.move_on.ensures.rows (g.M.Monomial.vector c.args.mono) c.loop-row.heap (record { rows_are = rows; among = h; taken = e.1; out = e.2 });
-      summing = subst (λ (reads : List ℕ). Summing g.M.Monomial.order (g.R.CoeffRing.characteristic c.args.ring) (g.M.Monomial.vector c.args.mono) (left_to_read (sum_of g.M.Monomial.vector g.R.CoeffRing.value c.args.learned.now) c.args.reads.now (sum_of g.M.Monomial.vector g.R.CoeffRing.value c.args.rows.now)) (left_to_read (sum_of g.M.Monomial.vector g.R.CoeffRing.value c.args.learned.now) reads (sum_of g.M.Monomial.vector g.R.CoeffRing.value c.args.rows.now)) (g.R.CoeffRing.value c.add-coef.result)) (sym c.move_on.ensures.reads)
-          (sum_more g.M.Monomial.order (g.R.CoeffRing.characteristic c.args.ring) (g.M.Monomial.vector c.args.mono) (left_to_read (sum_of g.M.Monomial.vector g.R.CoeffRing.value c.args.learned.now) c.args.reads.now (sum_of g.M.Monomial.vector g.R.CoeffRing.value c.args.rows.now)) (left_to_read (sum_of g.M.Monomial.vector g.R.CoeffRing.value c.args.learned.now) c.loop-row.reads (sum_of g.M.Monomial.vector g.R.CoeffRing.value c.args.rows.now)) (left_to_read (sum_of g.M.Monomial.vector g.R.CoeffRing.value c.args.learned.now) (set c.loop-row.reads c.in-Some.row (get_or c.loop-row.reads c.in-Some.row 0 + 1)) (sum_of g.M.Monomial.vector g.R.CoeffRing.value c.args.rows.now)) (taken_product (sum_of g.M.Monomial.vector g.R.CoeffRing.value c.args.learned.now) (sum_of g.M.Monomial.vector g.R.CoeffRing.value c.args.rows.now) c.loop-row.reads c.in-Some.row) (g.R.CoeffRing.value c.loop-row.coef) (g.R.CoeffRing.value c.mul-product.result) (g.R.CoeffRing.value c.add-coef.result) c.loop-row.invariant.summing split mono (c.mul-product.ensures.value ∙ ap (red (g.R.CoeffRing.characteristic c.args.ring)) coefs) c.add-coef.ensures.value);
-      in_ring = c.add-coef.ensures.belongs;
+      summing = subst (λ (reads : List ℕ). Summing g.M.Monomial.order (g.R.CoeffRing.characteristic c.args.ring) (g.M.Monomial.vector c.args.mono) (left_to_read (sum_of g.M.Monomial.vector g.R.CoeffRing.value c.args.learned.now) c.args.reads.now (sum_of g.M.Monomial.vector g.R.CoeffRing.value c.args.rows.now)) (left_to_read (sum_of g.M.Monomial.vector g.R.CoeffRing.value c.args.learned.now) reads (sum_of g.M.Monomial.vector g.R.CoeffRing.value c.args.rows.now)) (g.R.CoeffRing.sum_value (g.R.CoeffRing.characteristic c.args.ring) c.add_product-sum.result)) (sym c.move_on.ensures.reads)
+          (sum_more g.M.Monomial.order (g.R.CoeffRing.characteristic c.args.ring) (g.M.Monomial.vector c.args.mono) (left_to_read (sum_of g.M.Monomial.vector g.R.CoeffRing.value c.args.learned.now) c.args.reads.now (sum_of g.M.Monomial.vector g.R.CoeffRing.value c.args.rows.now)) (left_to_read (sum_of g.M.Monomial.vector g.R.CoeffRing.value c.args.learned.now) c.loop-row.reads (sum_of g.M.Monomial.vector g.R.CoeffRing.value c.args.rows.now)) (left_to_read (sum_of g.M.Monomial.vector g.R.CoeffRing.value c.args.learned.now) (set c.loop-row.reads c.in-Some.row (get_or c.loop-row.reads c.in-Some.row 0 + 1)) (sum_of g.M.Monomial.vector g.R.CoeffRing.value c.args.rows.now)) (taken_product (sum_of g.M.Monomial.vector g.R.CoeffRing.value c.args.learned.now) (sum_of g.M.Monomial.vector g.R.CoeffRing.value c.args.rows.now) c.loop-row.reads c.in-Some.row) (g.R.CoeffRing.sum_value (g.R.CoeffRing.characteristic c.args.ring) c.loop-row.sum) (g.R.CoeffRing.value (get_or c.args.rows.now c.in-Some.row c.index-rows-at.result).coef *ℤ g.R.CoeffRing.value (get_or c.args.learned.now (get_or c.loop-row.reads c.in-Some.row 0) c.index-learned-reads.result).coef) (g.R.CoeffRing.sum_value (g.R.CoeffRing.characteristic c.args.ring) c.add_product-sum.result) c.loop-row.invariant.summing split mono coefs c.add_product-sum.ensures.value);
+      in_ring = c.add_product-sum.ensures.belongs;
       counts = omega (arith, inv.counts, made, taken, c.move_on.ensures.taken);
       grows = omega (arith, inv.grows, made);
       compares = λ k b. step_compares k c.args.steps.now.compares c.loop-row.steps.compares c.move_on.new.steps.compares (sum c.args.reads.now) (sum c.loop-row.reads) (sum c.move_on.new.reads) (sum_by present c.args.heap.now) (sum_by present c.loop-row.heap) (sum_by present c.pop_taken.new.self) (sum_by present c.move_on.new.heap)
           (inv.compares k b) (omega (arith, ap (sum_by present) e.2, present_out c.loop-row.heap c.in-Some.row e.0 e.1)) made
-          (let m = c.move_on.ensures.compares k (omega (arith, b, ap length e.2, length-set c.loop-row.heap c.in-Some.row Out, rows.places_count, c.requires.taken.places_count)) in omega (arith, m, c.mul-product.ensures.compares));
-      products = (omega (arith, inv.products.0, inv.grows, made, c.mul-product.ensures.products, c.move_on.ensures.products), omega (arith, inv.products.1, inv.grows, made, c.mul-product.ensures.products, c.move_on.ensures.products));
+          (let m = c.move_on.ensures.compares k (omega (arith, b, ap length e.2, length-set c.loop-row.heap c.in-Some.row Out, rows.places_count, c.requires.taken.places_count)) in omega (arith, m, c.add_product-sum.ensures.compares));
+      products = (omega (arith, inv.products.0, inv.grows, made, c.add_product-sum.ensures.products, c.move_on.ensures.products), omega (arith, inv.products.1, inv.grows, made, c.add_product-sum.ensures.products, c.move_on.ensures.products));
     }
 
 pub returns-clause-out : goal.returns-clause-out
 returns-clause-out g c =
     let monos = g.met.M.Monomial g.world.𝓛 g.world.𝓜 g.world.𝓡 ((λ s x. x), (λ x. x), (λ x. x), λ x. x) in
     let none = (c.in_default.ensures).0 in
-    sum_ends g.M.Monomial.order (g.R.CoeffRing.characteristic c.args.ring) (left_to_read (sum_of g.M.Monomial.vector g.R.CoeffRing.value c.args.learned.now) c.args.reads.now (sum_of g.M.Monomial.vector g.R.CoeffRing.value c.args.rows.now)) (left_to_read (sum_of g.M.Monomial.vector g.R.CoeffRing.value c.args.learned.now) c.loop-row.reads (sum_of g.M.Monomial.vector g.R.CoeffRing.value c.args.rows.now)) (term_of g.M.Monomial.vector g.R.CoeffRing.value (record { mono = c.args.mono; coef = c.loop-row.coef })) c.loop-row.invariant.summing
+    sum_ends g.M.Monomial.order (g.R.CoeffRing.characteristic c.args.ring) (left_to_read (sum_of g.M.Monomial.vector g.R.CoeffRing.value c.args.learned.now) c.args.reads.now (sum_of g.M.Monomial.vector g.R.CoeffRing.value c.args.rows.now)) (left_to_read (sum_of g.M.Monomial.vector g.R.CoeffRing.value c.args.learned.now) c.loop-row.reads (sum_of g.M.Monomial.vector g.R.CoeffRing.value c.args.rows.now)) (term_of g.M.Monomial.vector g.R.CoeffRing.value (record { mono = c.args.mono; coef = c.total.result })) (subst (λ (z : ℤ). Summing g.M.Monomial.order (g.R.CoeffRing.characteristic c.args.ring) (g.M.Monomial.vector c.args.mono) (left_to_read (sum_of g.M.Monomial.vector g.R.CoeffRing.value c.args.learned.now) c.args.reads.now (sum_of g.M.Monomial.vector g.R.CoeffRing.value c.args.rows.now)) (left_to_read (sum_of g.M.Monomial.vector g.R.CoeffRing.value c.args.learned.now) c.loop-row.reads (sum_of g.M.Monomial.vector g.R.CoeffRing.value c.args.rows.now)) z) (sym c.total.ensures.value) c.loop-row.invariant.summing)
     (all_below g.M.Monomial.order (g.M.Monomial.vector c.args.mono) (left_to_read (sum_of g.M.Monomial.vector g.R.CoeffRing.value c.args.learned.now) c.loop-row.reads (sum_of g.M.Monomial.vector g.R.CoeffRing.value c.args.rows.now)) (left_below g.M.Monomial.vector g.M.Monomial.order (g.M.Monomial.vector c.args.mono) (sum_of g.M.Monomial.vector g.R.CoeffRing.value c.args.learned.now) (sum_of g.M.Monomial.vector g.R.CoeffRing.value c.args.rows.now) c.loop-row.reads c.loop-row.heap g.M.Monomial.VARS (monos.vars c.args.mono) c.loop-row.invariant.rows none c.requires.rows_fall (over_sum g.M.Monomial.vector g.R.CoeffRing.value g.M.Monomial.VARS monos.vars c.args.rows.now) c.requires.learned_fall (over_sum g.M.Monomial.vector g.R.CoeffRing.value g.M.Monomial.VARS monos.vars c.args.learned.now)))
 
 pub returns-clause-rows : goal.returns-clause-rows
