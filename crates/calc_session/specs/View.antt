@@ -1,5 +1,5 @@
 -- What contracts see of a session.
-use Rattle.std.specs.Prelude.{ℕ, List, [], ◌∷◌, ◌≡◌, Some, None, Ok, if◌then◌else◌}
+use Rattle.std.specs.Prelude.{ℕ, List, [], ◌∷◌, ◌≡◌, length, Some, None, Ok, if◌then◌else◌}
 use Rattle.std.specs.Str.{bytes_eq}
 use Rattle.sdmp_laws.specs.Order.{Order}
 use Rattle.sdmp_laws.specs.Poly.{Term}
@@ -37,6 +37,12 @@ place_in NoMemory = 0
 
 abbrev pub setting_in : Order → List (List ℕ) → ℕ → ℕ → Setting
 setting_in ord names lim p = record { order = ord; variables = names; limit = lim; modulus = p }
+
+-- the setting of a session whose monomials have this order, this limit and so many variables
+pub record IsSettingOf (ord : Order) (lim n : ℕ) (setting : Setting) : Type 0 where
+  pub order : setting.order ≡ ord
+  pub limit : setting.limit ≡ lim
+  pub variables : length setting.variables ≡ n
 
 -- the name stands for the polynomial of the text that begins at the place
 abbrev pub Defines : Setting → ℕ → List ℕ → List ℕ → Defined → Defined → Type 0

@@ -1,24 +1,22 @@
-//! What a session is: how an input is cut into lines, what each line says and answers, the faults, and the session of the demo.
+//! What a session is: how an input is cut into lines, what each line says, the names and what they stand for, the texts of answers and faults, and the session of the demo.
 #![tactic(auto)]
 
-pub mod answers;
-pub mod arithmetic;
-pub mod body;
-mod commands;
-pub mod definitions;
-pub mod demo;
+mod answers;
+mod body;
+mod definitions;
+mod demo;
 mod effective;
-pub mod fault;
-pub mod faults;
-pub mod header;
-pub mod lines;
-pub mod ring;
-pub mod ring_line;
-pub mod session;
-pub mod vars;
+mod fault;
+mod faults;
+mod header;
+mod lines;
+mod ring;
+mod ring_line;
+mod session;
+mod vars;
+mod writing;
 
 pub use answers::Ending;
-pub use arithmetic::{Arithmetic, Divided};
 pub use body::{Line, parse_line};
 pub use demo::demo_input;
 pub use fault::LineFault;
@@ -27,8 +25,9 @@ pub use header::{Header, HeaderFault, parse_header};
 pub use lines::split_line;
 pub use ring::RingChoice;
 pub use ring_line::parse_ring;
-pub use session::{BodySession, Next};
+pub use session::BodySession;
 pub use vars::parse_vars;
+pub use writing::{write_line, write_none, write_pair};
 
 #[cfg(test)]
 mod tests;

@@ -1,26 +1,17 @@
 //! The body of a session.
-ghost use Rattle.std.specs.Prelude.{◌≡◌, ◌≢◌, ◌+◌, ◌∷◌, [], ℕ, List, length, map, Ok, Err, IfOk, IfErr, OnOk, OnErr, IsErr, ◌++◌, ◌<◌, ◌≤◌};
-ghost use Rattle.calc_session.specs.Answers.{before, refused};
-ghost use Rattle.calc_session.specs.View.{answers_of};
+ghost use Rattle.std.specs.Prelude.{◌≡◌, ◌≢◌, ◌+◌, ◌≤◌, ◌<◌, [], length, map, All, Ok, Err, IfOk, IfErr, MatchResult, OnOk};
+ghost use Rattle.calc_session.specs.Session.{at_column, known, reading_at};
+ghost use Rattle.calc_session.specs.View.{held, plain, place_in, setting_in, Defines, IsSettingOf};
 
-use crate::arithmetic::Arithmetic;
-use crate::commands::answer_line;
 use crate::definitions::Definitions;
 use crate::fault::LineFault;
-use crate::faults::write_fault;
+use canonical_terms::Poly;
 use coeff_ring::CoeffRing;
 use packed_monomial::Monomial;
-use poly_text::Names;
-use sdmp_laws::NoMemory;
+use poly_text::{Names, read_poly};
 use std::alloc::Global;
 use std::marker::Model;
-
-/// What follows a line: the next one, or nothing, since the line has a fault.
-#[derive(Clone, Copy, Debug, PartialEq, Eq)]
-pub enum Next {
-    More,
-    Refused,
-}
+use text_laws::TextFault;
 
 /// The names of a session, and the polynomials that are defined so far.
 ///
@@ -62,40 +53,101 @@ impl<R: CoeffRing, M: Monomial> BodySession<R, M> {
         }
     }
 
-    /// Answers the line of this number into `out`, which is empty: with what the line writes, or with its fault line where the session ends here. After NoMemory `out` is empty, and the session is good for nothing more.
-    pub fn answer<A: Arithmetic<R, M>>(
+    /// The variables. The setting of a session is that of its type.
+    pub fn names(&self) -> &Names
+        ensures names { result.now ≡ self.now.setting.variables }
+        ensures setting { IsSettingOf M.order M.LIM M.VARS self.now.setting }
+    {
+        &self.names
+    }
+
+    /// The polynomial that the name stands for, or that the name is unknown.
+    pub fn look_up(&self, name: &[u8]) -> Result<&Poly<R, M>, LineFault>
+        ensures known { MatchResult
+            result
+            (λ f. known (held self.now.defined name.now) ≡ Ok f.now.list)
+            (λ fault. known (held self.now.defined name.now) ≡ Err fault) }
+        ensures modulus { IfOk result (λ f. f.now.modulus ≡ self.now.setting.modulus) }
+    {
+        self.defined.look_up(name)
+    }
+
+    /// Reads the polynomial whose text begins at the place `start` of the line, and lets the name stand for it. Where the text has a fault, or memory is wanting, nothing is defined.
+    pub fn define(
         &mut self,
         alloc: Global,
-        arithmetic: &A,
-        number: u64,
+        name: &[u8],
         line: &[u8],
-        out: &mut Vec<u8>,
-    ) -> Result<Next, NoMemory>
-        requires { out.old.items ≡ [] }
-        ensures more { result ≡ Ok Next.More → (later : List (List ℕ))
-            → answers_of self.old number (line.now ∷ later) ≡ before out.new.items (answers_of self.new (number + 1) later) }
-        ensures refused { result ≡ Ok Next.Refused → (later : List (List ℕ))
-            → answers_of self.old number (line.now ∷ later) ≡ refused out.new.items }
-        ensures wanting { OnErr result (out.new.items ≡ []) }
+        start: usize,
+    ) -> Result<(), LineFault>
+        requires within { start ≤ length line.now }
+        ensures setting { self.new.setting ≡ self.old.setting }
+        ensures defines { OnOk result (Defines self.old.setting start line.now name.now (held self.old.defined) (held self.new.defined)) }
+        ensures refused { IfErr result (λ fault. fault ≢ LineFault.NoMemory → reading_at self.old.setting start line.now ≡ Err fault) }
     {
-        let answered = answer_line(
+        define_text(
             alloc,
-            arithmetic,
             self.ring,
             &self.names,
-            &mut self.defined,
+            name,
+            start,
             line,
-            out,
-        );
-        let Err(fault) = answered else {
-            return Ok(Next::More);
-        };
-        if let LineFault::NoMemory = fault {
-            return Err(NoMemory);
+            &mut self.defined,
+        )
+    }
+}
+
+// reads the polynomial that begins at the place, and lets the name stand for it
+fn define_text<R: CoeffRing, M: Monomial>(
+    alloc: Global,
+    ring: R,
+    names: &Names,
+    name: &[u8],
+    start: usize,
+    line: &[u8],
+    defined: &mut Definitions<R, M>,
+) -> Result<(), LineFault>
+    requires vars { length names.now ≡ M.VARS }
+    requires within { start ≤ length line.now }
+    requires modulus { All (λ d. d.poly.modulus ≡ R.characteristic ring) defined.old }
+    ensures ok { OnOk
+        result
+        (Defines (setting_in M.order names.now M.LIM (R.characteristic ring)) start line.now name.now (held (map plain defined.old)) (held (map plain defined.new))) }
+    ensures refused { IfErr
+        result
+        (λ fault. fault ≢ LineFault.NoMemory → reading_at (setting_in M.order names.now M.LIM (R.characteristic ring)) start line.now ≡ Err fault) }
+    ensures modulus { All (λ d. d.poly.modulus ≡ R.characteristic ring) defined.new }
+{
+    match read_poly(alloc, ring, names, &line[start..]) {
+        Ok(poly) => {
+            if defined.define(alloc, name, poly).is_err() {
+                return Err(LineFault::NoMemory);
+            }
+            Ok(())
         }
-        if write_fault(alloc, number, &fault, out).is_err() {
-            return Err(NoMemory);
-        }
-        Ok(Next::Refused)
+        Err(fault) => Err(in_line(fault, start)),
+    }
+}
+
+// the fault of a text that begins at this place of a line
+fn in_line(fault: TextFault, start: usize) -> LineFault
+    requires { start + place_in fault < u64.MAX }
+    ensures { result ≡ at_column start fault }
+{
+    let before = start as u64 + 1;
+    match fault {
+        TextFault::Syntax { at } => LineFault::Syntax {
+            column: before + at,
+        },
+        TextFault::UnknownName { at } => LineFault::UnknownNameAt {
+            column: before + at,
+        },
+        TextFault::DegreeBound { at } => LineFault::DegreeBoundAt {
+            column: before + at,
+        },
+        TextFault::CoefficientBound { at } => LineFault::CoefficientBoundAt {
+            column: before + at,
+        },
+        TextFault::NoMemory => LineFault::NoMemory,
     }
 }

@@ -1,41 +1,7 @@
 use super::*;
-use canonical_terms::Poly;
-use coeff_ring::{CoeffRing, Integers};
-use packed_monomial::{Monomial, Packed};
-use std::alloc::Global;
+use coeff_ring::Integers;
+use packed_monomial::Packed;
 use std::test::Fail;
-
-/// Multiplies and divides nothing.
-struct Idle;
-
-impl<R: CoeffRing, M: Monomial> Arithmetic<R, M> for Idle {
-    fn product(
-        &self,
-        _alloc: Global,
-        f: &Poly<R, M>,
-        g: &Poly<R, M>,
-    ) -> Result<Poly<R, M>, LineFault> {
-        Err(LineFault::NoMemory)
-    }
-
-    fn quotient(
-        &self,
-        _alloc: Global,
-        f: &Poly<R, M>,
-        g: &Poly<R, M>,
-    ) -> Result<Option<Poly<R, M>>, LineFault> {
-        Err(LineFault::NoMemory)
-    }
-
-    fn remainder(
-        &self,
-        _alloc: Global,
-        f: &Poly<R, M>,
-        g: &Poly<R, M>,
-    ) -> Result<Divided<Poly<R, M>>, LineFault> {
-        Err(LineFault::NoMemory)
-    }
-}
 
 #[test]
 fn reads_headers(rt: HostRuntime) -> Result<(), Fail> {
@@ -70,11 +36,9 @@ fn answers_lines(rt: HostRuntime) -> Result<(), Fail> {
     let (line, rest) = split_line(header.body);
     assert!(rt; rest.is_empty());
     assert!(rt; matches!(parse_line(line, &header.names), Ok(Line::Show { .. })));
-    let mut session = BodySession::<Integers, Packed<1>>::new(rt.alloc(), Integers, header.names);
-    let mut out = Vec::new(rt.alloc());
-    let next = session.answer(rt.alloc(), &Idle, header.line, line, &mut out)?;
-    assert_eq!(rt; next, Next::Refused);
-    assert_eq!(rt; out.as_slice(), b"line 5: unknown name\n".as_slice());
+    let session = BodySession::<Integers, Packed<1>>::new(rt.alloc(), Integers, header.names);
+    assert_eq!(rt; session.names().len(), 1);
+    assert!(rt; matches!(session.look_up(b"a"), Err(LineFault::UnknownName)));
     Ok(())
 }
 
@@ -83,17 +47,18 @@ fn shows_what_is_defined(rt: HostRuntime) -> Result<(), Fail> {
     let header = parse_header(rt.alloc(), b"vars x\nring Z\n")?;
     assert_eq!(rt; header.names.len(), 1);
     let mut session = BodySession::<Integers, Packed<1>>::new(rt.alloc(), Integers, header.names);
+    session.define(rt.alloc(), b"a", b"a = 7", 3)?;
+    session.define(rt.alloc(), b"a", b"a = x*x - 3 + 2", 3)?;
+    let a = session.look_up(b"a")?;
     let mut out = Vec::new(rt.alloc());
-    session.answer(rt.alloc(), &Idle, 3, b"a = 7", &mut out)?;
-    out.clear();
-    session.answer(rt.alloc(), &Idle, 4, b"a = x*x - 3 + 2", &mut out)?;
-    out.clear();
-    let next = session.answer(rt.alloc(), &Idle, 5, b"show a", &mut out)?;
-    assert_eq!(rt; next, Next::More);
+    write_line(rt.alloc(), a, session.names(), &mut out)?;
     assert_eq!(rt; out.as_slice(), b"x^2-1\n".as_slice());
     out.clear();
-    session.answer(rt.alloc(), &Idle, 6, b"rem a b", &mut out)?;
-    assert_eq!(rt; out.as_slice(), b"line 6: unknown name\n".as_slice());
+    write_pair(rt.alloc(), a, a, session.names(), &mut out)?;
+    assert_eq!(rt; out.as_slice(), b"x^2-1\nx^2-1\n".as_slice());
+    out.clear();
+    write_none(&mut out)?;
+    assert_eq!(rt; out.as_slice(), b"none\n".as_slice());
     Ok(())
 }
 

@@ -5,6 +5,7 @@ use sdmp_top::{RealSink, RealSource, Status, run};
 use std::env;
 use std::io::ErrorKind;
 use std::process::ExitCode;
+use turnstile::OpenGate;
 
 fn main(rt: HostRuntime) -> ExitCode {
     let mut words = Vec::new(rt.alloc());
@@ -18,7 +19,14 @@ fn main(rt: HostRuntime) -> ExitCode {
             }
             let mut source = RealSource::new(rt.stdin());
             let mut sink = RealSink::new(rt.stdout());
-            run(rt.alloc(), &words, &mut source, &mut sink)
+            run(
+                &rt,
+                rt.alloc(),
+                &words,
+                &mut source,
+                &mut sink,
+                &OpenGate,
+            )
         }
         Err(error) if error.kind() == ErrorKind::OutOfMemory => Status::NoMemory,
         // a word that isn't UTF-8

@@ -9,8 +9,8 @@ use Rattle.sdmp_laws.specs.Order.{Order, Grlex}
 use Rattle.packed_monomial.specs.Packing.{limit_of}
 use Rattle.calc_session.specs.Session.{Setting, Defined, body_answers, setting_of, undefined}
 use Rattle.calc_session.specs.View.{Body, answers_of, held}
-use Rattle.calc_session.specs.declared.session.Next.{Next}
-use Rattle.calc_session.specs.declared.session.Next.TheVariants as next
+use Rattle.sdmp_top.specs.declared.answering.Next.{Next}
+use Rattle.sdmp_top.specs.declared.answering.Next.TheVariants as next
 use Rattle.calc_session.specs.declared.answers.Ending.{Ending}
 use Rattle.sdmp_top.specs.declared.stop.Stop.{Stop}
 use Rattle.sdmp_top.specs.declared.stop.Stop.TheVariants as stop

@@ -2,3 +2,5 @@ pub mod OutsideLemmas
 pub mod AnswerLemmas
 pub mod SummaryLemmas
 pub mod DivisionLemmas
+pub mod SettingLemmas
+pub mod FactorLemmas

@@ -1,21 +1,62 @@
 //! The lines of a session are answered one by one.
-ghost use Rattle.std.specs.Prelude.{◌≡◌, ◌+◌, ◌≤◌, length};
+ghost use Rattle.std.specs.Prelude.{◌≡◌, ◌+◌, ◌≤◌, ◌∷◌, [], ℕ, List, length, Ok, OnErr};
+ghost use Rattle.calc_session.specs.Answers.{before, refused};
 ghost use Rattle.calc_session.specs.Lines.{lines};
 ghost use Rattle.calc_session.specs.View.{answers_of};
 ghost use Rattle.sdmp_top.specs.Written.{IsAnswering};
 
+use crate::commands::answer_line;
 use crate::outside::Sink;
 use crate::stop::Stop;
+use crate::workers::Workers;
 use crate::writing::write_all;
-use calc_session::{Arithmetic, BodySession, Ending, Next, split_line};
+use calc_session::{BodySession, Ending, LineFault, split_line, write_fault};
 use coeff_ring::CoeffRing;
 use packed_monomial::Monomial;
+use sdmp_laws::NoMemory;
 use std::alloc::Global;
+use std::thread::Threads;
+use turnstile::Gate;
+
+/// What follows a line: the next one, or nothing, since the line has a fault.
+#[derive(Clone, Copy, Debug, PartialEq, Eq)]
+pub enum Next {
+    More,
+    Refused,
+}
+
+/// Answers the line of this number into `out`, which is empty: with what the line writes, or with its fault line where the session ends here. After NoMemory `out` is empty, and the session is good for nothing more.
+fn answer<T: Threads + Sync, G: Gate, R: CoeffRing, M: Monomial>(
+    alloc: Global,
+    by: &Workers<'_, T, G>,
+    session: &mut BodySession<R, M>,
+    number: u64,
+    line: &[u8],
+    out: &mut Vec<u8>,
+) -> Result<Next, NoMemory>
+    requires { out.old.items ≡ [] }
+    ensures more { result ≡ Ok Next.More → (later : List (List ℕ))
+        → answers_of session.old number (line.now ∷ later) ≡ before out.new.items (answers_of session.new (number + 1) later) }
+    ensures refused { result ≡ Ok Next.Refused → (later : List (List ℕ))
+        → answers_of session.old number (line.now ∷ later) ≡ refused out.new.items }
+    ensures wanting { OnErr result (out.new.items ≡ []) }
+{
+    let Err(fault) = answer_line(alloc, by, session, line, out) else {
+        return Ok(Next::More);
+    };
+    if let LineFault::NoMemory = fault {
+        return Err(NoMemory);
+    }
+    if write_fault(alloc, number, &fault, out).is_err() {
+        return Err(NoMemory);
+    }
+    Ok(Next::Refused)
+}
 
 /// Answers the lines of a body, of which the first has the number `first`. Each line's answer is made whole and then written.
-pub fn answer_lines<R: CoeffRing, M: Monomial, A: Arithmetic<R, M>, K: Sink>(
+pub fn answer_lines<T: Threads + Sync, G: Gate, R: CoeffRing, M: Monomial, K: Sink>(
     alloc: Global,
-    arithmetic: &A,
+    by: &Workers<'_, T, G>,
     session: &mut BodySession<R, M>,
     first: u64,
     body: &[u8],
@@ -30,7 +71,7 @@ pub fn answer_lines<R: CoeffRing, M: Monomial, A: Arithmetic<R, M>, K: Sink>(
     while !rest.is_empty() {
         let (line, later) = split_line(rest);
         out.clear();
-        let Ok(next) = session.answer(alloc, arithmetic, number, line, &mut out) else {
+        let Ok(next) = answer(alloc, by, session, number, line, &mut out) else {
             return Err(Stop::NoMemory);
         };
         if write_all(sink, &out).is_err() {

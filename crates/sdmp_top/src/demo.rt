@@ -8,10 +8,13 @@ ghost use Rattle.sdmp_top.specs.Written.{demo_text, summary_text};
 
 use crate::dispatch::answer_input;
 use crate::outside::{Failed, Sink};
+use crate::workers::Workers;
 use calc_session::{Ending, demo_input};
 use itoa::Buffer;
 use sdmp_laws::NoMemory;
 use std::alloc::{AllocError, Global};
+use std::thread::Threads;
+use turnstile::Gate;
 
 /// The summary of a demo's answers, and how they end.
 #[derive(Drop)]
@@ -21,7 +24,11 @@ pub struct Summary {
 }
 
 /// Answers the input that the seed makes, and sums the answers up.
-pub fn demo_summary(alloc: Global, seed: u64) -> Result<Summary, NoMemory>
+pub fn demo_summary<T: Threads + Sync, G: Gate>(
+    alloc: Global,
+    by: &Workers<'_, T, G>,
+    seed: u64,
+) -> Result<Summary, NoMemory>
     ensures text { IfOk result (λ s. s.text.items ≡ demo_text seed) }
     ensures ending { IfOk result (λ s. s.ending ≡ (answers (demo_input_of seed)).ending) }
 {
@@ -29,7 +36,7 @@ pub fn demo_summary(alloc: Global, seed: u64) -> Result<Summary, NoMemory>
         return Err(NoMemory);
     };
     let mut gathered = Gathered::new(alloc);
-    let Ok(ending) = answer_input(alloc, &input, &mut gathered) else {
+    let Ok(ending) = answer_input(alloc, by, &input, &mut gathered) else {
         return Err(NoMemory);
     };
     let mut text = Vec::new(alloc);

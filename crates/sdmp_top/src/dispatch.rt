@@ -12,20 +12,26 @@ ghost use Rattle.sdmp_top.specs.Written.{AppendsPieces, IsAnswering};
 
 use crate::answering::answer_lines;
 use crate::outside::Sink;
-use crate::product::Sequential;
 use crate::stop::Stop;
+use crate::workers::Workers;
 use crate::writing::write_all;
 use calc_session::{
-    Arithmetic, BodySession, Ending, Header, HeaderFault, LineFault, RingChoice, parse_header,
-    write_fault,
+    BodySession, Ending, Header, HeaderFault, LineFault, RingChoice, parse_header, write_fault,
 };
 use coeff_residue::Residues;
 use coeff_ring::{CoeffRing, Integers};
 use packed_monomial::{Monomial, Packed};
 use std::alloc::Global;
+use std::thread::Threads;
+use turnstile::Gate;
 
 /// Answers the lines of the input. Each line's answer is made whole and then written.
-pub fn answer_input<K: Sink>(alloc: Global, input: &[u8], sink: &mut K) -> Result<Ending, Stop>
+pub fn answer_input<T: Threads + Sync, G: Gate, K: Sink>(
+    alloc: Global,
+    by: &Workers<'_, T, G>,
+    input: &[u8],
+    sink: &mut K,
+) -> Result<Ending, Stop>
     ensures ending { IfOk result (λ ending. (answers input.now).ending ≡ ending) }
     ensures text { IfOk result (λ _. Appends (K.held sink.old) (K.held sink.new) (text (answers input.now))) }
     ensures write_fault { IsErrOf result Stop.WriteFault → AppendsPart (K.held sink.old) (K.held sink.new) (text (answers input.now)) }
@@ -35,7 +41,7 @@ pub fn answer_input<K: Sink>(alloc: Global, input: &[u8], sink: &mut K) -> Resul
     ensures steady { result ≢ Err Stop.WriteFault → K.faults sink.new ≡ K.faults sink.old }
 {
     match parse_header(alloc, input) {
-        Ok(header) => answer_body(alloc, header, sink),
+        Ok(header) => answer_body(alloc, by, header, sink),
         Err(HeaderFault { line, fault }) => refuse(alloc, line, fault, sink),
     }
 }
@@ -59,12 +65,12 @@ fn refuse<K: Sink>(alloc: Global, line: u64, fault: LineFault, sink: &mut K) -> 
 }
 
 macro_rules! by_variables {
-    ($alloc:expr, $header:expr, $sink:expr; $($n:literal),*) => {
+    ($alloc:expr, $by:expr, $header:expr, $sink:expr; $($n:literal),*) => {
         match $header.names.len() {
             $($n => match $header.ring {
-                RingChoice::Integers => answer_in::<Integers, Packed<$n>, Sequential, K>($alloc, Integers, &Sequential, $header, $sink),
+                RingChoice::Integers => answer_in::<T, G, Integers, Packed<$n>, K>($alloc, $by, Integers, $header, $sink),
                 RingChoice::Modulus(p) => match Residues::new(p) {
-                    Some(ring) => answer_in::<Residues, Packed<$n>, Sequential, K>($alloc, ring, &Sequential, $header, $sink),
+                    Some(ring) => answer_in::<T, G, Residues, Packed<$n>, K>($alloc, $by, ring, $header, $sink),
                     None => unreachable!(),
                 },
             },)*
@@ -74,18 +80,24 @@ macro_rules! by_variables {
 }
 
 // Chooses the ring and the monomials.
-fn answer_body<K: Sink>(alloc: Global, header: Header<'_>, sink: &mut K) -> Result<Ending, Stop>
+fn answer_body<T: Threads + Sync, G: Gate, K: Sink>(
+    alloc: Global,
+    by: &Workers<'_, T, G>,
+    header: Header<'_>,
+    sink: &mut K,
+) -> Result<Ending, Stop>
     requires ring { IsChoice header.ring }
     requires numbers { header.line + length header.body.now ≤ u64.MAX }
     ensures { IsAnswering (body_answers (setting_of header.entry.names (characteristic_of header.entry.ring)) undefined header.entry.line (lines header.entry.body.now)) (K.held sink.old) (K.held sink.new) (K.faults sink.old) (K.faults sink.new) (K.at_last sink.new) result }
 {
-    by_variables!(alloc, header, sink; 1, 2, 3, 4, 5, 6, 7)
+    by_variables!(alloc, by, header, sink; 1, 2, 3, 4, 5, 6, 7)
 }
 
-fn answer_in<R: CoeffRing, M: Monomial, A: Arithmetic<R, M>, K: Sink>(
+// The session of this ring and of these monomials.
+fn answer_in<T: Threads + Sync, G: Gate, R: CoeffRing, M: Monomial, K: Sink>(
     alloc: Global,
+    by: &Workers<'_, T, G>,
     ring: R,
-    arithmetic: &A,
     header: Header<'_>,
     sink: &mut K,
 ) -> Result<Ending, Stop>
@@ -99,7 +111,7 @@ fn answer_in<R: CoeffRing, M: Monomial, A: Arithmetic<R, M>, K: Sink>(
     let mut session = BodySession::<R, M>::new(alloc, ring, header.names);
     answer_lines(
         alloc,
-        arithmetic,
+        by,
         &mut session,
         header.line,
         header.body,

@@ -6,7 +6,7 @@ ghost use Rattle.division_laws.specs.Outcome.{IsOutcome, HasQuotient, HasNoQuoti
 ghost use Rattle.divide_core.specs.Answer.{IsRefusal};
 ghost use Rattle.calc_session.specs.Quotient.{division, IsUndivided};
 
-use calc_session::{Divided, LineFault};
+use calc_session::LineFault;
 use canonical_terms::Poly;
 use coeff_ring::CoeffRing;
 use divide_core::{DivideFault, Division, divide_alone};
@@ -14,13 +14,20 @@ use packed_monomial::Monomial;
 use sdmp_laws::Mode;
 use std::alloc::Global;
 
+/// A quotient, and what it leaves of the dividend.
+#[derive(Drop)]
+pub struct Divided<P> {
+    pub quotient: P,
+    pub remainder: P,
+}
+
 /// The exact quotient of two polynomials of one modulus, and None exactly where there is none.
 pub fn quotient<R: CoeffRing, M: Monomial>(
     alloc: Global,
     f: &Poly<R, M>,
     g: &Poly<R, M>,
 ) -> Result<Option<Poly<R, M>>, LineFault>
-    requires { f.now.modulus ≡ g.now.modulus }
+    requires moduli { f.now.modulus ≡ g.now.modulus }
     ensures modulus { IfOk result (λ answer. IfSome answer (λ q. q.modulus ≡ f.now.modulus)) }
     ensures quotient { let d = division Exact M.order M.VARS f.now.modulus f.now.list g.now.list in
         IfOk result (λ answer. MatchOption answer (IsOutcome d HasNoQuotient) (λ q. IsOutcome d (HasQuotient q.list))) }
@@ -40,7 +47,7 @@ pub fn remainder<R: CoeffRing, M: Monomial>(
     f: &Poly<R, M>,
     g: &Poly<R, M>,
 ) -> Result<Divided<Poly<R, M>>, LineFault>
-    requires { f.now.modulus ≡ g.now.modulus }
+    requires moduli { f.now.modulus ≡ g.now.modulus }
     ensures modulus { IfOk result (λ h. (h.quotient.modulus ≡ f.now.modulus) × (h.remainder.modulus ≡ f.now.modulus)) }
     ensures remainder { IfOk
         result

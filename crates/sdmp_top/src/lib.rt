@@ -2,13 +2,13 @@
 #![tactic(auto)]
 
 mod answering;
+mod commands;
 mod demo;
 mod dispatch;
 mod division;
 mod intake;
 mod memory;
 mod outside;
-mod product;
 mod real;
 mod shell;
 mod status;
@@ -16,6 +16,7 @@ mod steady;
 mod stop;
 #[cfg(test)]
 mod tests;
+mod workers;
 mod writing;
 
 pub use memory::{MemorySink, MemorySource};

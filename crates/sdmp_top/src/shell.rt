@@ -13,19 +13,26 @@ use crate::intake::{IntakeFault, MAX_INPUT, read_all};
 use crate::outside::{Failed, Sink, Source};
 use crate::status::Status;
 use crate::stop::Stop;
+use crate::workers::Workers;
 use crate::writing::write_all;
 use calc_session::Ending;
 use sdmp_words::{WordsFault, read_words};
 use std::alloc::Global;
+use std::thread::Threads;
+use turnstile::Gate;
 
 /// The whole run: reads the words, then the whole input, and then answers line by line. With `--demo` it reads no input, answers that of the demo, and writes a summary in place of the answers.
 ///
+/// Products are made by so many workers as the words say, in threads of their own where `threads` can make them; `gate` is where each worker arrives. The answers are the same for every order of their steps.
+///
 /// Want of memory is the one answer that may come at any time.
-pub fn run<S: Source, K: Sink>(
+pub fn run<T: Threads + Sync, S: Source, K: Sink, G: Gate>(
+    threads: &T,
     alloc: Global,
     words: &[String],
     source: &mut S,
     sink: &mut K,
+    gate: &G,
 ) -> Status
     // Where neither end fails, the input isn't too long and memory isn't wanting, exactly the answers are written.
     ensures exact { (settings : Settings) → settings_of (map string_bytes words.now) ≡ Some settings
@@ -72,17 +79,25 @@ pub fn run<S: Source, K: Sink>(
     ensures no_memory_flushed { result ≡ Status.NoMemory → (K.flushed sink.new ≡ true) ⊎ (sink.new ≡ sink.old) }
 {
     match read_words(alloc, words) {
-        Ok(settings) => match settings.demo {
-            None => run_session(alloc, source, sink),
-            Some(seed) => run_demo(alloc, seed, sink),
-        },
+        Ok(settings) => {
+            let by = Workers::new(threads, gate, settings);
+            match settings.demo {
+                None => run_session(alloc, &by, source, sink),
+                Some(seed) => run_demo(alloc, &by, seed, sink),
+            }
+        }
         Err(WordsFault::BadWords) => Status::BadWords,
         Err(WordsFault::NoMemory) => Status::NoMemory,
     }
 }
 
 // Reads the whole input, and then answers line by line.
-fn run_session<S: Source, K: Sink>(alloc: Global, source: &mut S, sink: &mut K) -> Status
+fn run_session<T: Threads + Sync, G: Gate, S: Source, K: Sink>(
+    alloc: Global,
+    by: &Workers<'_, T, G>,
+    source: &mut S,
+    sink: &mut K,
+) -> Status
     ensures answered { IsAnswered result → (input : List ℕ) → S.left source.old ≡ Some input
         → Answered (answers input) result (K.held sink.old) (K.held sink.new) (K.flushed sink.new) }
     ensures flushed { IsAnswered result → K.flushed sink.new ≡ true }
@@ -114,7 +129,7 @@ fn run_session<S: Source, K: Sink>(alloc: Global, source: &mut S, sink: &mut K) 
         Err(IntakeFault::TooLong) => return Status::TooLong,
         Err(IntakeFault::NoMemory) => return Status::NoMemory,
     };
-    match answer_input(alloc, &input, sink) {
+    match answer_input(alloc, by, &input, sink) {
         Ok(Ending::Done) => flush_after(sink, Status::Done),
         Ok(Ending::Refused) => flush_after(sink, Status::Refused),
         Err(Stop::WriteFault) => Status::WriteFault,
@@ -123,7 +138,12 @@ fn run_session<S: Source, K: Sink>(alloc: Global, source: &mut S, sink: &mut K) 
 }
 
 // Writes the summary of the demo's answers.
-fn run_demo<K: Sink>(alloc: Global, seed: u64, sink: &mut K) -> Status
+fn run_demo<T: Threads + Sync, G: Gate, K: Sink>(
+    alloc: Global,
+    by: &Workers<'_, T, G>,
+    seed: u64,
+    sink: &mut K,
+) -> Status
     ensures answered { IsAnswered result → Answered (demo_answers seed) result (K.held sink.old) (K.held sink.new) (K.flushed sink.new) }
     ensures flushed { IsAnswered result → K.flushed sink.new ≡ true }
     ensures told { IsAnswered result ⊎ (result ≡ Status.WriteFault) ⊎ (result ≡ Status.NoMemory) }
@@ -132,7 +152,7 @@ fn run_demo<K: Sink>(alloc: Global, seed: u64, sink: &mut K) -> Status
     ensures part { result ≡ Status.WriteFault → AppendsPart (K.held sink.old) (K.held sink.new) (text (demo_answers seed)) }
     ensures no_memory { result ≡ Status.NoMemory → sink.new ≡ sink.old }
 {
-    let Ok(summary) = demo_summary(alloc, seed) else {
+    let Ok(summary) = demo_summary(alloc, by, seed) else {
         return Status::NoMemory;
     };
     if write_all(sink, &summary.text).is_err() {

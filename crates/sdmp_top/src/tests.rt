@@ -3,9 +3,12 @@ ghost use Rattle.std.specs.Prelude.{◌<◌};
 use crate::{CountSink, MemorySink, MemorySource, Status, SteadySource, run};
 use std::alloc::Global;
 use std::test::Fail;
+use std::thread::Threads;
+use turnstile::OpenGate;
 
 mod broken;
 mod divisions;
+mod gates;
 mod large;
 
 // What a run on a session meets: the read and the write that fail, and what the sink takes in all and at a time.
@@ -33,7 +36,8 @@ fn only(alloc: Global, call: Option<u64>) -> Result<Vec<u64>, Fail> {
 }
 
 // The text that a run on a session writes, and its status.
-fn answer(
+fn answer<T: Threads + Sync>(
+    threads: &T,
     alloc: Global,
     session: &[u8],
     words: &str,
@@ -49,7 +53,7 @@ fn answer(
     let writes = only(alloc, ends.failing_write)?;
     let mut source = MemorySource::new(session.to_vec(alloc)?, 8, reads);
     let mut sink = MemorySink::new(alloc, ends.room, ends.chunk, writes)?;
-    let status = run(alloc, &list, &mut source, &mut sink);
+    let status = run(threads, alloc, &list, &mut source, &mut sink, &OpenGate);
     Ok((sink.bytes().to_vec(alloc)?, status))
 }
 
@@ -78,7 +82,7 @@ fn answers_sessions(rt: HostRuntime) -> Result<(), Fail> {
         ),
     ];
     for (session, text) in rows {
-        let (written, ended) = answer(rt.alloc(), session.as_bytes(), "", &STEADY)?;
+        let (written, ended) = answer(&rt, rt.alloc(), session.as_bytes(), "", &STEADY)?;
         assert_eq!(rt; written.as_slice(), text.as_bytes(), "{session}");
         assert_eq!(rt; ended, Status::Done, "{session}");
     }
@@ -106,7 +110,7 @@ fn refuses_lines(rt: HostRuntime) -> Result<(), Fail> {
         ),
     ];
     for (session, text) in rows {
-        let (written, ended) = answer(rt.alloc(), session.as_bytes(), "", &STEADY)?;
+        let (written, ended) = answer(&rt, rt.alloc(), session.as_bytes(), "", &STEADY)?;
         assert_eq!(rt; written.as_slice(), text.as_bytes(), "{session}");
         assert_eq!(rt; ended, Status::Refused, "{session}");
     }
@@ -138,7 +142,7 @@ fn refuses_after_lines(rt: HostRuntime) -> Result<(), Fail> {
         ),
     ];
     for (session, text) in rows {
-        let (written, ended) = answer(rt.alloc(), session.as_bytes(), "", &STEADY)?;
+        let (written, ended) = answer(&rt, rt.alloc(), session.as_bytes(), "", &STEADY)?;
         assert_eq!(rt; written.as_slice(), text.as_bytes(), "{session}");
         assert_eq!(rt; ended, Status::Refused, "{session}");
     }
@@ -179,7 +183,7 @@ fn names_the_first_fault(rt: HostRuntime) -> Result<(), Fail> {
         ("# a=b\n\n#x\n", "line 4: vars expected\n"),
     ];
     for (session, text) in rows {
-        let (written, ended) = answer(rt.alloc(), session.as_bytes(), "", &STEADY)?;
+        let (written, ended) = answer(&rt, rt.alloc(), session.as_bytes(), "", &STEADY)?;
         assert_eq!(rt; written.as_slice(), text.as_bytes(), "{session}");
         assert_eq!(rt; ended, Status::Refused, "{session}");
     }
@@ -191,12 +195,12 @@ fn refuses_a_long_input(rt: HostRuntime) -> Result<(), Fail> {
     let mut source = SteadySource::new(vec![in rt.alloc(); b'\n'; 67_108_865]?);
     let mut sink = CountSink::new();
     assert_eq!(rt;
-        run(rt.alloc(), &[], &mut source, &mut sink),
+        run(&rt, rt.alloc(), &[], &mut source, &mut sink, &OpenGate),
         Status::TooLong
     );
     assert_eq!(rt; sink.count(), 0);
     let mut source = SteadySource::new(FIRST.as_bytes().to_vec(rt.alloc())?);
-    assert_eq!(rt; run(rt.alloc(), &[], &mut source, &mut sink), Status::Done);
+    assert_eq!(rt; run(&rt, rt.alloc(), &[], &mut source, &mut sink, &OpenGate), Status::Done);
     assert_eq!(rt; sink.count(), 6);
     Ok(())
 }

@@ -1,5 +1,5 @@
 -- The words of the command line, as a user writes them.
-use Rattle.std.specs.Prelude.{◌==◌, ◌&&◌, ◌+◌, ◌*◌, ◌-◌, ℕ, Bool, true, not, List, [], ◌∷◌, map, Option, Some, None, codes, is_some, find, fold, length, nat_le, if◌then◌else◌, option_and_then, option_map, unwrap_or}
+use Rattle.std.specs.Prelude.{◌≤◌, ◌==◌, ◌&&◌, ◌+◌, ◌*◌, ◌-◌, ℕ, Bool, true, not, List, [], ◌∷◌, map, Option, Some, None, codes, is_some, find, fold, length, nat_le, if◌then◌else◌, option_and_then, option_map, unwrap_or}
 use Rattle.std.specs.List.{list_all, list_any, before_first, after_first}
 use Rattle.std.specs.Option.{option_map_or}
 use Rattle.std.specs.Str.{bytes_eq}
@@ -92,3 +92,7 @@ settings_by options = record {
 -- what the words set; none where they aren't accepted
 unfoldable pub settings_of : List Text → Option Settings
 settings_of words = option_and_then (λ options. if are_accepted options then Some (settings_by options) else None) (options_from None words)
+
+-- 1 to 64 workers, and 2 to 65536 places
+abbrev pub AreInRange : Settings → Type 0
+AreInRange settings = ((1 ≤ settings.workers) × (settings.workers ≤ 64)) × ((2 ≤ settings.places) × (settings.places ≤ 65536))

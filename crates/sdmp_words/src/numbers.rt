@@ -5,7 +5,7 @@ ghost use Rattle.sdmp_words.specs.Words.{number_in, decimal_of};
 #[tactic(auto, unfolding(crate::specs::Words::number_in))]
 pub fn number_in(low: u64, high: u64, text: &[u8]) -> Option<u64>
     ensures value { result ≡ number_in low high text.now }
-    ensures range { IfSome result (λ n. n ≤ high) }
+    ensures range { IfSome result (λ n. (low ≤ n) × (n ≤ high)) }
 {
     if text.is_empty() || text.len() > 20 {
         return None;

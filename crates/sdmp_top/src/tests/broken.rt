@@ -9,7 +9,7 @@ fn reads_fail(rt: HostRuntime) -> Result<(), Fail> {
             failing_read: Some(call),
             ..STEADY
         };
-        let (written, ended) = answer(rt.alloc(), FIRST.as_bytes(), "", &ends)?;
+        let (written, ended) = answer(&rt, rt.alloc(), FIRST.as_bytes(), "", &ends)?;
         if call < 6 {
             assert!(rt; written.is_empty(), "{call}");
             assert_eq!(rt; ended, Status::ReadFault, "{call}");
@@ -37,7 +37,7 @@ fn writes_fail(rt: HostRuntime) -> Result<(), Fail> {
             chunk,
             failing_write,
         };
-        let (written, ended) = answer(rt.alloc(), FIRST.as_bytes(), "", &ends)?;
+        let (written, ended) = answer(&rt, rt.alloc(), FIRST.as_bytes(), "", &ends)?;
         assert_eq!(rt; written.as_slice(), text.as_bytes());
         assert_eq!(rt; ended, status, "{text}");
     }
@@ -71,7 +71,7 @@ fn the_input_ends_anywhere(rt: HostRuntime) -> Result<(), Fail> {
         for length in first..=last {
             let mut bytes = FIRST.as_bytes().to_vec(rt.alloc())?;
             bytes.truncate(length);
-            let (written, ended) = answer(rt.alloc(), &bytes, "", &STEADY)?;
+            let (written, ended) = answer(&rt, rt.alloc(), &bytes, "", &STEADY)?;
             assert_eq!(rt; written.as_slice(), text.as_bytes(), "{length}");
             assert_eq!(rt; ended, status, "{length}");
         }
@@ -121,7 +121,7 @@ fn sessions_are_malformed(rt: HostRuntime) -> Result<(), Fail> {
         ),
     ];
     for (session, text) in rows {
-        let (written, ended) = answer(rt.alloc(), session, "", &STEADY)?;
+        let (written, ended) = answer(&rt, rt.alloc(), session, "", &STEADY)?;
         assert_eq!(rt; written.as_slice(), text.as_bytes(), "{text}");
         assert_eq!(rt; ended, Status::Refused, "{text}");
     }
@@ -147,7 +147,7 @@ fn sessions_are_odd(rt: HostRuntime) -> Result<(), Fail> {
         (FIRST, "--workers 0", "", Status::BadWords),
     ];
     for (session, words, text, status) in rows {
-        let (written, ended) = answer(rt.alloc(), session.as_bytes(), words, &STEADY)?;
+        let (written, ended) = answer(&rt, rt.alloc(), session.as_bytes(), words, &STEADY)?;
         assert_eq!(rt; written.as_slice(), text.as_bytes(), "{session}");
         assert_eq!(rt; ended, status, "{session}");
     }

@@ -22,7 +22,7 @@ fn divides(rt: HostRuntime) -> Result<(), Fail> {
         ),
     ];
     for (session, text) in rows {
-        let (written, ended) = answer(rt.alloc(), session.as_bytes(), "", &STEADY)?;
+        let (written, ended) = answer(&rt, rt.alloc(), session.as_bytes(), "", &STEADY)?;
         assert_eq!(rt; written.as_slice(), text.as_bytes(), "{session}");
         assert_eq!(rt; ended, Status::Done, "{session}");
     }
@@ -62,7 +62,7 @@ fn refuses_divisions(rt: HostRuntime) -> Result<(), Fail> {
         ),
     ];
     for (session, text) in rows {
-        let (written, ended) = answer(rt.alloc(), session.as_bytes(), "", &STEADY)?;
+        let (written, ended) = answer(&rt, rt.alloc(), session.as_bytes(), "", &STEADY)?;
         assert_eq!(rt; written.as_slice(), text.as_bytes(), "{session}");
         assert_eq!(rt; ended, Status::Refused, "{session}");
     }

@@ -14,7 +14,7 @@ pub returns-then-is_err : goal.returns-then-is_err
 returns-then-is_err g c =
     let later = lines c.split_line.result.1.now in
     let told = answers_of c.loop-rest.session c.loop-rest.number in
-    let begun = text_of_line c.in-Ok.next (told (c.split_line.result.0.now ∷ later)) (answers_of c.answer.new.self (c.loop-rest.number + 1) later) c.answer.new.out.items
+    let begun = text_of_line c.in-Ok.next (told (c.split_line.result.0.now ∷ later)) (answers_of c.answer.new.session (c.loop-rest.number + 1) later) c.answer.new.out.items
     (λ e. c.in-Ok.ensures.more (ap Ok e) later) (λ e. c.in-Ok.ensures.refused (ap Ok e) later) in
     let part = when_err c.write_all.result c.is_err.result (AppendsPart (g.K.Sink.held c.loop-rest.sink) (g.K.Sink.held c.write_all.new.sink) c.deref.result.now)
     c.is_err.ensures.value c.if-is_err.true c.write_all.ensures.part in
@@ -43,7 +43,7 @@ returns-in-Refused g c =
 pub loop-rest-preserved : goal.loop-rest-preserved
 loop-rest-preserved g c =
     let later = lines c.split_line.result.1.now in
-    let next = answers_of c.answer.new.self (c.loop-rest.number + 1) later in
+    let next = answers_of c.answer.new.session (c.loop-rest.number + 1) later in
     let appends = when_ok c.write_all.result c.is_err.result (Appends (g.K.Sink.held c.loop-rest.sink) (g.K.Sink.held c.write_all.new.sink) c.deref.result.now)
     c.is_err.ensures.value c.if-is_err.false c.write_all.ensures.appends in
     let steady = when_ok c.write_all.result c.is_err.result (g.K.Sink.faults c.write_all.new.sink ≡ g.K.Sink.faults c.loop-rest.sink)

@@ -6,7 +6,7 @@ use Rattle.sdmp_top.proofs.SummaryLemmas.{demo_summed, gathered_all}
 use Rattle.sdmp_top.proofs.demo.demo_summary.Goals as goal
 
 pub returns-in-Ok-write_summary-clause-text : goal.returns-in-Ok-write_summary-clause-text
-returns-in-Ok-write_summary-clause-text c =
+returns-in-Ok-write_summary-clause-text g c =
     let long : c.len.result ≡ length c.in-Ok.input.items = omega (arith, c.len.ensures, c.deref.ensures.len, ap length c.deref.ensures.value) in
     demo_summed c.args.seed c.len.result c.deref-2.result.now c.write_summary.new.out.items
     (long ∙ ap length c.in-Ok.ensures)

@@ -19,11 +19,11 @@ returns-in-Some-clause-settings c =
     command_taken (map string_bytes c.args.words.now)
     (sym (list_any-map is_bare_dashes string_bytes c.args.words.now) ∙ sym c.has_bare_dashes.ensures ∙ c.if-has_bare_dashes.false)
     c.in_ok-matches.ensures.no_fault
-    ∙ ap settings_by_rows (sym c.in_ok-matches.ensures.taken) ∙ sym c.in-Some.ensures
+    ∙ ap settings_by_rows (sym c.in_ok-matches.ensures.taken) ∙ sym c.in-Some.ensures.value
 
 pub returns-clause-bad_words : goal.returns-clause-bad_words
 returns-clause-bad_words c = λ _.
     command_taken (map string_bytes c.args.words.now)
     (sym (list_any-map is_bare_dashes string_bytes c.args.words.now) ∙ sym c.has_bare_dashes.ensures ∙ c.if-has_bare_dashes.false)
     c.in_ok-matches.ensures.no_fault
-    ∙ ap settings_by_rows (sym c.in_ok-matches.ensures.taken) ∙ sym c.in-None.ensures
+    ∙ ap settings_by_rows (sym c.in_ok-matches.ensures.taken) ∙ sym c.in-None.ensures.value

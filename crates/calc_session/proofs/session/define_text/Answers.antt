@@ -2,7 +2,7 @@ use Rattle.std.proofs.Common.{rules, ◌≡◌, ◌+◌, length, drop, arith}
 use Rattle.std.proofs.lemmas.List.{take_rest, length-drop}
 use Rattle.calc_session.proofs.CommandLemmas.{read_ok, read_err}
 use Rattle.calc_session.proofs.Places.{fault_placed}
-use Rattle.calc_session.proofs.commands.define_text.Goals as goal
+use Rattle.calc_session.proofs.session.define_text.Goals as goal
 
 pub in_line-requires : goal.in_line-requires
 in_line-requires g c =

@@ -1,0 +1,94 @@
+use Rattle.std.proofs.Common.{rules, map, List, ℕ, ◌≡◌, ◌∙◌, ap, sym, Ok}
+use Rattle.std.proofs.lemmas.Result.{IfErr-weaker, on_ok_weaker}
+use Rattle.calc_session.specs.Body.{form_of, Define, Show, Mul, Div, Rem}
+use Rattle.calc_session.specs.View.{held}
+use Rattle.calc_session.proofs.CommandLemmas.{passed_up, begins_within, to_err, to_skip, to_define, to_unread, to_piece, to_fault}
+use Rattle.sdmp_top.proofs.commands.answer_line.Goals as goal
+
+pub returns-in_err-parse_line-clause-refused : goal.returns-in_err-parse_line-clause-refused
+returns-in_err-parse_line-clause-refused g c =
+    let S = c.args.session.now.setting in
+    let D = held c.args.session.now.defined in
+    passed_up c.from_residual.result c.in_err-parse_line.field-0.0 _ c.from_residual.ensures.1
+    (λ other. to_err S D c.args.line.now c.in_err-parse_line.field-0.0 (search rules))
+
+pub define-requires-clause-within : goal.define-requires-clause-within
+define-requires-clause-within g c = λ κs h. begins_within c.args.session.now.setting.variables c.args.line.now c.in-Define.name.now c.in-Define.start (search rules)
+
+pub returns-in-Skip-clause-answered : goal.returns-in-Skip-clause-answered
+returns-in-Skip-clause-answered g c =
+    let S = c.args.session.now.setting in
+    let D = held c.args.session.now.defined in
+    to_skip S D c.args.line.now (search rules) ∙ ap (λ (o : List ℕ). Ok (D, o)) (sym c.requires.empty)
+
+pub returns-in-Define-clause-answered : goal.returns-in-Define-clause-answered
+returns-in-Define-clause-answered g c =
+    let S = c.args.session.now.setting in
+    let D = held c.args.session.now.defined in
+    let now = held c.define.new.self.defined in
+    let said : form_of S.variables c.args.line.now ≡ Ok (Define c.in-Define.name.now c.in-Define.start) = search rules in
+    on_ok_weaker c.define.result
+    (λ h. to_define S D c.args.line.now c.in-Define.name.now c.in-Define.start now said h ∙ ap (λ (o : List ℕ). Ok (now, o)) (sym c.requires.empty)) c.define.ensures.defines
+
+pub returns-in-Define-clause-refused : goal.returns-in-Define-clause-refused
+returns-in-Define-clause-refused g c =
+    let S = c.args.session.now.setting in
+    let D = held c.args.session.now.defined in
+    let said : form_of S.variables c.args.line.now ≡ Ok (Define c.in-Define.name.now c.in-Define.start) = search rules in
+    IfErr-weaker c.define.result _ _ (λ fault h other. to_unread S D c.args.line.now c.in-Define.name.now c.in-Define.start fault said (h other)) c.define.ensures.refused
+
+pub returns-in-Show-clause-answered : goal.returns-in-Show-clause-answered
+returns-in-Show-clause-answered g c =
+    let S = c.args.session.now.setting in
+    let D = held c.args.session.now.defined in
+    let said : form_of S.variables c.args.line.now ≡ Ok (Show c.in-Show.a.now) = search rules in
+    on_ok_weaker c.show.result (λ h. to_piece S D c.args.line.now (Show c.in-Show.a.now) c.show.new.out.items tt said h) c.show.ensures.ok
+
+pub returns-in-Show-clause-refused : goal.returns-in-Show-clause-refused
+returns-in-Show-clause-refused g c =
+    let S = c.args.session.now.setting in
+    let D = held c.args.session.now.defined in
+    let said : form_of S.variables c.args.line.now ≡ Ok (Show c.in-Show.a.now) = search rules in
+    IfErr-weaker c.show.result _ _ (λ fault h other. to_fault S D c.args.line.now (Show c.in-Show.a.now) fault tt said (h other)) c.show.ensures.refused
+
+pub returns-in-Mul-clause-answered : goal.returns-in-Mul-clause-answered
+returns-in-Mul-clause-answered g c =
+    let S = c.args.session.now.setting in
+    let D = held c.args.session.now.defined in
+    let said : form_of S.variables c.args.line.now ≡ Ok (Mul c.in-Mul.a.now c.in-Mul.b.now) = search rules in
+    on_ok_weaker c.multiply.result (λ h. to_piece S D c.args.line.now (Mul c.in-Mul.a.now c.in-Mul.b.now) c.multiply.new.out.items tt said h) c.multiply.ensures.ok
+
+pub returns-in-Mul-clause-refused : goal.returns-in-Mul-clause-refused
+returns-in-Mul-clause-refused g c =
+    let S = c.args.session.now.setting in
+    let D = held c.args.session.now.defined in
+    let said : form_of S.variables c.args.line.now ≡ Ok (Mul c.in-Mul.a.now c.in-Mul.b.now) = search rules in
+    IfErr-weaker c.multiply.result _ _ (λ fault h other. to_fault S D c.args.line.now (Mul c.in-Mul.a.now c.in-Mul.b.now) fault tt said (h other)) c.multiply.ensures.refused
+
+pub returns-in-Div-clause-answered : goal.returns-in-Div-clause-answered
+returns-in-Div-clause-answered g c =
+    let S = c.args.session.now.setting in
+    let D = held c.args.session.now.defined in
+    let said : form_of S.variables c.args.line.now ≡ Ok (Div c.in-Div.a.now c.in-Div.b.now) = search rules in
+    on_ok_weaker c.divide.result (λ h. to_piece S D c.args.line.now (Div c.in-Div.a.now c.in-Div.b.now) c.divide.new.out.items tt said h) c.divide.ensures.ok
+
+pub returns-in-Div-clause-refused : goal.returns-in-Div-clause-refused
+returns-in-Div-clause-refused g c =
+    let S = c.args.session.now.setting in
+    let D = held c.args.session.now.defined in
+    let said : form_of S.variables c.args.line.now ≡ Ok (Div c.in-Div.a.now c.in-Div.b.now) = search rules in
+    IfErr-weaker c.divide.result _ _ (λ fault h other. to_fault S D c.args.line.now (Div c.in-Div.a.now c.in-Div.b.now) fault tt said (h other)) c.divide.ensures.refused
+
+pub returns-in-Rem-clause-answered : goal.returns-in-Rem-clause-answered
+returns-in-Rem-clause-answered g c =
+    let S = c.args.session.now.setting in
+    let D = held c.args.session.now.defined in
+    let said : form_of S.variables c.args.line.now ≡ Ok (Rem c.in-Rem.a.now c.in-Rem.b.now) = search rules in
+    on_ok_weaker c.divide_with_rest.result (λ h. to_piece S D c.args.line.now (Rem c.in-Rem.a.now c.in-Rem.b.now) c.divide_with_rest.new.out.items tt said h) c.divide_with_rest.ensures.ok
+
+pub returns-in-Rem-clause-refused : goal.returns-in-Rem-clause-refused
+returns-in-Rem-clause-refused g c =
+    let S = c.args.session.now.setting in
+    let D = held c.args.session.now.defined in
+    let said : form_of S.variables c.args.line.now ≡ Ok (Rem c.in-Rem.a.now c.in-Rem.b.now) = search rules in
+    IfErr-weaker c.divide_with_rest.result _ _ (λ fault h other. to_fault S D c.args.line.now (Rem c.in-Rem.a.now c.in-Rem.b.now) fault tt said (h other)) c.divide_with_rest.ensures.refused

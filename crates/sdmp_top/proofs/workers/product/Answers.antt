@@ -1,0 +1,21 @@
+use Rattle.std.proofs.Common.{IfOk, sym}
+use Rattle.sdmp_laws.specs.Poly.{Over}
+use Rattle.calc_session.proofs.CommandLemmas.{if_ok_weaker}
+use Rattle.std.proofs.lemmas.Result.{IfErr-weaker}
+use Rattle.sdmp_top.proofs.FactorLemmas.{product_swaps, refused_swaps}
+use Rattle.sdmp_top.proofs.workers.product.Goals as goal
+
+pub returns-clause-product : goal.returns-clause-product
+returns-clause-product g c =
+    let f = c.args.f.now in
+    let h = c.args.g.now in
+    if_ok_weaker c.product_by_rows-2.result _ _
+    (λ product is. product_swaps g.M.Monomial.order g.M.Monomial.LIM f.modulus h.modulus g.M.Monomial.VARS f.list h.list product.list c.requires.moduli
+    c.terms.ensures.canonical.poly.vectors c.terms-2.ensures.canonical.poly.vectors is)
+    c.product_by_rows-2.ensures.product
+
+pub returns-clause-refused : goal.returns-clause-refused
+returns-clause-refused g c =
+    IfErr-weaker c.product_by_rows-2.result _ _
+    (λ fault is. refused_swaps g.M.Monomial.LIM c.args.f.now.modulus c.args.g.now.modulus c.args.f.now.list c.args.g.now.list fault c.requires.moduli is)
+    c.product_by_rows-2.ensures.refused

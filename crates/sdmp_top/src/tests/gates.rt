@@ -1,0 +1,62 @@
+use crate::{MemorySink, MemorySource, Status, run};
+use std::sync::atomic::AtomicU64;
+use std::sync::atomic::Ordering::SeqCst;
+use std::test::Fail;
+use std::thread;
+use turnstile::Gate;
+
+const TURNS: u64 = 1_000_000_000;
+
+// Holds the first arrival of each of two workers until the other has arrived.
+#[derive(Drop)]
+struct PairGate {
+    first: AtomicU64,
+    second: AtomicU64,
+    given_up: AtomicU64,
+}
+
+impl PairGate {
+    fn hold(&self, mine: &AtomicU64, other: &AtomicU64) {
+        if mine.swap(1, SeqCst) == 1 {
+            return;
+        }
+        for _ in 0..TURNS {
+            if other.load(SeqCst) == 1 {
+                return;
+            }
+            thread::yield_now();
+        }
+        self.given_up.store(1, SeqCst);
+    }
+}
+
+impl Gate for PairGate {
+    fn arrive(&self, worker: u32) {
+        if worker == 0 {
+            self.hold(&self.first, &self.second);
+        } else {
+            self.hold(&self.second, &self.first);
+        }
+    }
+}
+
+#[test]
+fn two_workers_run_beside_each_other(rt: HostRuntime) -> Result<(), Fail> {
+    let alloc = rt.alloc();
+    let gate = PairGate {
+        first: AtomicU64::new(0),
+        second: AtomicU64::new(0),
+        given_up: AtomicU64::new(0),
+    };
+    let session = b"vars x y\nring Z\na = x+y\nb = x-y\nmul a b\n";
+    let mut source = MemorySource::new(session.to_vec(alloc)?, 8, Vec::new(alloc));
+    let mut sink = MemorySink::new(alloc, 1_000, 4096, Vec::new(alloc))?;
+    let words = [String::from_str(alloc, "--workers=2")?];
+    let status = run(&rt, alloc, &words, &mut source, &mut sink, &gate);
+    assert_eq!(rt; status, Status::Done);
+    assert_eq!(rt; sink.bytes(), b"x^2-y^2\n".as_slice());
+    assert_eq!(rt; gate.first.load(SeqCst), 1);
+    assert_eq!(rt; gate.second.load(SeqCst), 1);
+    assert_eq!(rt; gate.given_up.load(SeqCst), 0);
+    Ok(())
+}
