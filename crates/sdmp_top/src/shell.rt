@@ -42,7 +42,6 @@ pub fn run<T: Threads + Sync, S: Source, K: Sink, G: Gate>(
         → DidNotFail (K.faults sink.old) (K.faults sink.new) (K.at_last sink.new)
         → result ≢ Status.NoMemory
         → Answered told result (K.held sink.old) (K.held sink.new) (K.flushed sink.new) }
-
     // Done and Refused.
     ensures answered { IsAnswered result → (settings : Settings) → settings_of (map string_bytes words.now) ≡ Some settings
         → (told : Answers) → wanted settings.demo (S.left source.old) ≡ Some told
@@ -50,12 +49,10 @@ pub fn run<T: Threads + Sync, S: Source, K: Sink, G: Gate>(
     ensures flushed { IsAnswered result → K.flushed sink.new ≡ true }
     ensures ended { IsAnswered result → (settings : Settings) → settings_of (map string_bytes words.now) ≡ Some settings → settings.demo ≡ None
         → (input : List ℕ) → S.left source.old ≡ Some input → S.left source.new ≡ Some [] }
-
     // The words.
     ensures bad_words { result ≡ Status.BadWords → settings_of (map string_bytes words.now) ≡ None }
     ensures words { settings_of (map string_bytes words.now) ≡ None → (result ≡ Status.BadWords) ⊎ (result ≡ Status.NoMemory) }
     ensures untouched { result ≡ Status.BadWords → (source.new ≡ source.old) × (sink.new ≡ sink.old) }
-
     // The input.
     ensures read_fault { result ≡ Status.ReadFault → Rose (S.faults source.old) (S.faults source.new) (S.at_last source.new) }
     ensures source_steady { result ≢ Status.ReadFault → S.faults source.new ≡ S.faults source.old }
@@ -66,7 +63,6 @@ pub fn run<T: Threads + Sync, S: Source, K: Sink, G: Gate>(
         → (result ≡ Status.TooLong) ⊎ (result ≡ Status.NoMemory) }
     ensures nothing_written { (result ≡ Status.ReadFault) ⊎ (result ≡ Status.TooLong) → sink.new ≡ sink.old }
     ensures demo_unread { (settings : Settings) → settings_of (map string_bytes words.now) ≡ Some settings → settings.demo ≢ None → source.new ≡ source.old }
-
     // What has been written where the run came to no end.
     ensures write_fault { result ≡ Status.WriteFault → Rose (K.faults sink.old) (K.faults sink.new) (K.at_last sink.new) }
     ensures sink_steady { result ≢ Status.WriteFault → K.faults sink.new ≡ K.faults sink.old }
