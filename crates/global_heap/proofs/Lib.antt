@@ -11,3 +11,4 @@ pub mod EmitSound
 pub mod Begun
 pub mod Taking
 pub mod Shares
+pub mod Examples

@@ -4,3 +4,4 @@ pub mod Readers
 pub mod Merges
 pub mod Inside
 pub mod Reached
+pub mod Examples

@@ -12,3 +12,6 @@ mod receipt;
 pub use answer::Advance;
 pub use merge::Merge;
 pub use receipt::{Advanced, MergeTally};
+
+#[cfg(test)]
+mod tests;

@@ -1,5 +1,5 @@
 //! The merge.
-ghost use Rattle.std.specs.Prelude.{◌≡◌, ◌<◌, ◌≤◌, ◌^◌, ◌↔◌, [], map, replicate, length, vec_len, IfOk, OnOk, IsTrue, All};
+ghost use Rattle.std.specs.Prelude.{◌≡◌, ◌<◌, ◌≤◌, ◌^◌, ◌↔◌, [], map, replicate, length, vec_len, IfOk, OnOk, OnErr, IsTrue, All};
 ghost use Rattle.sdmp_laws.specs.Poly.{terms, times};
 ghost use Rattle.whole_laws.specs.Wholes.{merge_start, IsMergeDone};
 ghost use Rattle.term_ring.specs.Ends.{taken, tail_seen, tail_loads};
@@ -78,6 +78,7 @@ impl<R: CoeffRing, M: Monomial> Merge<R, M> {
         ensures looks { self.new.looks ≡ self.old.looks }
         ensures room { OnOk result (n ≤ self.new.spare) }
         ensures kept { self.old.spare ≤ self.new.spare }
+        ensures refused { OnErr result (self.new ≡ self.old) }
     {
         if self.out.reserve(n).is_err() {
             return Err(NoMemory);
