@@ -34,6 +34,8 @@ pub struct MulWorker<'a, R: CoeffRing, M: Monomial> {
 
 impl<'a, R: CoeffRing, M: Monomial> MulWorker<'a, R, M> {
     /// A worker that has sent nothing, from rows of which nothing was handed out and the writer of a ring with their script. It allocates nothing.
+    ///
+    /// The worker keeps the pass, and no public call gives it back. Its rows count their comparisons and products for themselves, and nobody reads the counts.
     pub fn new(
         worker: u32,
         rows: RowMerge<'a, R, M>,
@@ -77,7 +79,7 @@ impl<'a, R: CoeffRing, M: Monomial> MulWorker<'a, R, M> {
 
     /// Sends the terms of the worker's part in order, and then its end, until the end is sent or the ring is full.
     ///
-    /// Whenever the ring is full the worker tries the turnstile up to `PATIENCE` times, advances the merge once where it is let in, and pushes once more. If that push too finds the ring full, the call ends, and its note is kept for the next call. It allocates nothing.
+    /// It first arrives at the gate, once, under its number, and waits for nothing else. Whenever the ring is full the worker tries the turnstile up to `PATIENCE` times, with a yield of its thread after each try that found it held, advances the merge once where it is let in, and pushes once more. If that push too finds the ring full, the call ends, and its note is kept for the next call. The answers of the merge's earlier advances in the call are dropped. It allocates nothing.
     pub fn advance<G: Gate>(
         &mut self,
         rings: &[Ring<R, M>],
@@ -108,7 +110,7 @@ impl<'a, R: CoeffRing, M: Monomial> MulWorker<'a, R, M> {
         )
     }
 
-    /// Lets the writer of the worker and the merge's reader of its ring meet, so that the merge finds what the worker has sent, and the worker the room that the merge has made. It allocates nothing.
+    /// Lets the writer of the worker and the merge's reader of its ring meet, so that the merge finds what the worker has sent, and the worker the room that the merge has made. It takes no note, tries no turnstile and allocates nothing.
     pub fn meet(&mut self, rings: &[Ring<R, M>], merge: &mut Merge<R, M>)
         requires rings { merge.old.rings ≡ map ring_name rings.now }
         requires ring { IsAmong (map ring_name rings.now) self.old.sender }

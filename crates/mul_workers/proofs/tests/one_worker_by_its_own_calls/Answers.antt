@@ -1,0 +1,10 @@
+use Rattle.std.proofs.Common.{[], ◌∷◌, sym, subst}
+use Rattle.global_heap.specs.Readers.{ring_name}
+use Rattle.mul_workers.specs.Senders.{IsAmong}
+use Rattle.mul_workers.proofs.Alone.{among_still}
+use Rattle.mul_workers.proofs.tests.one_worker_by_its_own_calls.Goals as goal
+
+pub meet-requires-clause-ring : goal.meet-requires-clause-ring
+meet-requires-clause-ring g c κs =
+    let names = ring_name c.in_ok-ring.ring ∷ [] in
+    subst (IsAmong names) (sym c.take_merge.ensures.sender) (among_still names c.in_ok-ring.worker.sender c.advance.new.self.sender c.in_ok-ring.ensures.among c.advance.ensures.sends)
