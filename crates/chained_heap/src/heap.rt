@@ -1,7 +1,8 @@
-//! The heap.
+//! The heap. Its calls are inlined into the loops of a merge: there its fields stay in registers, and counts of steps that nothing reads take no time.
 ghost use Rattle.std.specs.Prelude.{◌≡◌, ◌≢◌, ◌+◌, ◌*◌, ◌^◌, ◌<◌, ◌≤◌, ℕ, List, length, IfOk, MatchOption, replicate, map, slice_set, slice_index_or, false};
 ghost use Rattle.chained_heap.specs.Shape.{no_row, place_at, is_taken, is_at, never, count_at, taken_at, IsTop, IsEmpty, HasShape, TakesChain, Shape};
 
+use crate::ghost_list::GhostList;
 use crate::node::{Node, Place};
 use crate::sift::{Spot, add_node, find, remove_root};
 use packed_monomial::Monomial;
@@ -21,7 +22,7 @@ pub struct ChainedHeap<M: Monomial> {
     len: usize,
     // the row after each row of a chain, or `u32::MAX` at the end
     next: Vec<u32>,
-    places: Vec<Place<M>>,
+    places: GhostList<Place<M>>,
     // the first of the chain of taken rows
     taken: u32,
 }
@@ -53,19 +54,17 @@ impl<M: Monomial> ChainedHeap<M> {
         let Ok(next) = vec![in alloc; u32::MAX; rows as usize] else {
             return Err(NoMemory);
         };
-        let Ok(places) = vec![in alloc; Place::Out; rows as usize] else {
-            return Err(NoMemory);
-        };
         Ok(ChainedHeap {
             nodes,
             len: 0,
             next,
-            places,
+            places: GhostList::filled(&(rows as usize), &Place::Out),
             taken: u32::MAX,
         })
     }
 
     /// Puts a row that is out at a monomial. For rows whose number has l binary digits it makes at most l comparisons.
+    #[inline(always)]
     pub fn insert(&mut self, row: u32, mono: M, steps: &mut Steps)
         requires below { row < length self.old }
         requires out { slice_index_or self.old row Place.Out ≡ Place.Out }
@@ -80,18 +79,19 @@ impl<M: Monomial> ChainedHeap<M> {
                 let first = self.nodes[at].row;
                 self.next[slot] = first;
                 self.nodes[at].row = row;
-                self.places[slot] = Place::In(mono);
+                self.places = self.places.with(&slot, &Place::In(mono));
             }
             Spot::Room(at) => {
                 self.next[slot] = u32::MAX;
                 add_node(&mut self.nodes, len, at, Node { mono, row });
                 self.len = len + 1;
-                self.places[slot] = Place::In(mono);
+                self.places = self.places.with(&slot, &Place::In(mono));
             }
         }
     }
 
     /// The greatest monomial, and None exactly where no row is in the heap.
+    #[inline(always)]
     pub fn top(&self) -> Option<M>
         ensures { MatchOption result (IsEmpty self.now) (λ x. IsTop M.cmp self.now x) }
     {
@@ -102,6 +102,7 @@ impl<M: Monomial> ChainedHeap<M> {
     }
 
     /// Takes all rows at the greatest monomial and gives that monomial, and None exactly where no row is in the heap. For k rows it makes at most 2*l*k comparisons, l as in `insert`.
+    #[inline(always)]
     pub fn take_top(&mut self, steps: &mut Steps) -> Option<M>
         ensures places { MatchOption
             result
@@ -134,6 +135,7 @@ impl<M: Monomial> ChainedHeap<M> {
     }
 
     /// Puts out one of the taken rows, and None exactly where none is taken.
+    #[inline(always)]
     pub fn pop_taken(&mut self) -> Option<u32>
         ensures { MatchOption
             result
@@ -145,15 +147,16 @@ impl<M: Monomial> ChainedHeap<M> {
             return None;
         }
         self.taken = self.next[row as usize];
-        self.places[row as usize] = Place::Out;
+        self.places = self.places.with(&(row as usize), &Place::Out);
         Some(row)
     }
 }
 
 // Moves the rows of the chain that begins at `first` to the front of the taken ones.
+#[inline(always)]
 fn take_chain<M: Monomial>(
     next: &mut [u32],
-    places: &mut Vec<Place<M>>,
+    places: &mut GhostList<Place<M>>,
     first: u32,
     taken: u32,
 ) -> u32
@@ -169,7 +172,7 @@ fn take_chain<M: Monomial>(
         let slot = row as usize;
         let after = next[slot];
         next[slot] = taken;
-        places[slot] = Place::Taken;
+        *places = places.with(&slot, &Place::Taken);
         taken = row;
         row = after;
     }

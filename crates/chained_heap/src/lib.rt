@@ -1,6 +1,7 @@
 //! A heap of monomials in which rows with equal monomials share a node.
 #![tactic(auto)]
 
+mod ghost_list;
 mod heap;
 mod node;
 mod sift;

@@ -1,8 +1,8 @@
 //! Division of polynomials.
 #![tactic(auto)]
 
-pub mod alone;
-pub mod answer;
+mod alone;
+mod answer;
 mod bound;
 mod fit;
 mod next;

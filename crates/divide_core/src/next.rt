@@ -15,6 +15,7 @@ use std::cmp::Ordering;
 use step_count::Steps;
 
 // the products at the greatest monomial, with the negative of their sum
+#[inline(always)]
 fn owed<R: CoeffRing, M: Monomial>(
     ring: R,
     rows: &mut QuotientRows<'_, R, M>,
@@ -37,6 +38,7 @@ fn owed<R: CoeffRing, M: Monomial>(
 }
 
 // how the next unread term, at the place `read`, compares with the greatest product owed; None exactly where there is neither
+#[inline(always)]
 fn compared<R: CoeffRing, M: Monomial>(
     terms: &[Term<R, M>],
     read: usize,
@@ -66,6 +68,7 @@ fn compared<R: CoeffRing, M: Monomial>(
 }
 
 /// Takes what stands at the greatest monomial of the unread terms, from the place `read` on, and of the products owed: the difference of the sums, which may be zero. None exactly where nothing is left.
+#[inline(always)]
 pub fn take_next<R: CoeffRing, M: Monomial>(
     ring: R,
     terms: &[Term<R, M>],

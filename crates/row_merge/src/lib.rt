@@ -81,6 +81,7 @@ mod tests {
 
     #[test]
     fn hands_out_products_of_a_learned_term(rt: HostRuntime) -> Result<(), Fail> {
+        let square = Packed::<1>::pack(&[2])?;
         let x = Packed::<1>::pack(&[1])?;
         let one = Packed::<1>::pack(&[0])?;
         let terms = [
@@ -95,16 +96,27 @@ mod tests {
             Integers,
             terms.to_vec(rt.alloc())?,
         )?;
-        assert_eq!(rt; divisor.degree(), Some(1));
+        let Some(1) = divisor.degree() else {
+            return Err(Fail::from("another degree"));
+        };
         assert_eq!(rt; divisor.norm(), 2);
         let mut steps = Steps::new();
         let mut rows = QuotientRows::new(rt.alloc(), &divisor, 1, 0)?;
+        assert_eq!(rt; rows.divisor().terms().len(), 2);
+        assert!(rt; rows.first() == Some(one));
         rows.reserve(1)?;
-        rows.learn(TermOf { mono: one, coef: 1 }, &mut steps);
+        assert!(rt; rows.spare() >= 1);
+        rows.learn(
+            TermOf {
+                mono: square,
+                coef: 1,
+            },
+            &mut steps,
+        );
         assert_eq!(rt; rows.known(), 1);
-        assert!(rt; rows.top() == Some(one));
+        assert!(rt; rows.top() == Some(square));
         let term = rows.next(&mut steps).unwrap_or(TermOf { mono: x, coef: 0 });
-        assert!(rt; term.mono == one);
+        assert!(rt; term.mono == square);
         assert_eq!(rt; term.coef, -1);
         assert!(rt; rows.next(&mut steps).is_none());
         Ok(())

@@ -1,4 +1,4 @@
-//! Rows of products, each of which waits for the row before it: a row reads a term only after the row before it did, since its own product with that term is lower. So few products are in the heap at a time (Monagan and Pearce, "Polynomial division using dynamic arrays, heaps, and packed exponent vectors", 2007). The terms that rows read are called learned: the quotient terms so far, or all terms of the other factor.
+//! Rows of products, each of which waits for the row before it: a row reads a term only after the row before it did, since its own product with that term is lower. So few products are in the heap at a time (Monagan and Pearce, "Polynomial division using dynamic arrays, heaps, and packed exponent vectors", 2007). The terms that rows read are called learned: the quotient terms so far, or all terms of the other factor. The calls of a merge are inlined into one loop, as those of the heap are.
 ghost use Rattle.std.specs.Prelude.{◌≡◌, ◌+◌, ◌-◌, ◌*◌, ◌≤◌, ◌<◌, ◌^◌, ℕ, List, ◌∷◌, length, All, Some, None, slice_set, slice_index, slice_index_or, IsTrue, ◌↔◌};
 ghost use Rattle.std.specs.List.{sum_by};
 ghost use Rattle.sdmp_laws.specs.Order.{degree};
@@ -17,6 +17,7 @@ use packed_monomial::Monomial;
 use step_count::Steps;
 
 /// Puts a row that is out at its product with the learned term at `read`, if that is open to it.
+#[inline(always)]
 pub fn insert_if<R: CoeffRing, M: Monomial>(
     open: bool,
     rows: &[Term<R, M>],
@@ -41,6 +42,7 @@ pub fn insert_if<R: CoeffRing, M: Monomial>(
 }
 
 /// How far a row may read: the first as far as the terms are learned, each other as far as the row before it.
+#[inline(always)]
 pub fn top_of(known: usize, reads: &[usize], row: usize) -> usize
     requires { row < length reads.now }
     ensures { result ≡ slice_index (known ∷ reads.now) row }
@@ -49,6 +51,7 @@ pub fn top_of(known: usize, reads: &[usize], row: usize) -> usize
 }
 
 /// Whether a row has read just as many terms.
+#[inline(always)]
 pub fn has_read(reads: &[usize], row: usize, read: usize) -> bool
     ensures { IsTrue result ↔ ((row < length reads.now) × (slice_index reads.now row ≡ read)) }
 {
@@ -56,6 +59,7 @@ pub fn has_read(reads: &[usize], row: usize, read: usize) -> bool
 }
 
 /// The row that was put out has read a term: it goes back to the heap unless it waits for the row before it, and so does the row behind it, if that waited for it.
+#[inline(always)]
 fn move_on<R: CoeffRing, M: Monomial>(
     rows: &[Term<R, M>],
     learned: &[Term<R, M>],

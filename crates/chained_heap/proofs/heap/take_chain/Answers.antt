@@ -1,10 +1,10 @@
-use Rattle.std.proofs.Common.{◌≡◌, ◌+◌, ◌-◌, ◌<◌, ◌≤◌, ℕ, Bool, true, List, length, get_or, set, subst, arith}
+use Rattle.std.proofs.Common.{◌≡◌, ◌+◌, ◌-◌, ◌<◌, ◌≤◌, ℕ, Bool, true, List, length, get_or, set, subst, sym, arith}
 use Rattle.std.specs.List.{sum_by}
 use Rattle.std.proofs.lemmas.List.{length-set}
 use Rattle.chained_heap.specs.declared.node.Place.TheVariants.{Out, Taken}
 use Rattle.chained_heap.specs.declared.node.Place.{Place}
 use Rattle.std.proofs.lemmas.List.Sums.{sum_by-set}
-use Rattle.chained_heap.specs.Shape.{TakesChain, is_free, place_at}
+use Rattle.chained_heap.specs.Shape.{Shape, TakesChain, is_free, place_at}
 use Rattle.chained_heap.proofs.Moves.{few}
 use Rattle.chained_heap.proofs.Takes.{move_one, takes_begins, takes_steps}
 use Rattle.chained_heap.proofs.heap.take_chain.Goals as goal
@@ -21,12 +21,6 @@ bounds-next-slot g c = let s = c.loop-row.invariant.shaped in (move_one g.M.Ord.
 pub bounds-next-slot-in-loop-row : goal.bounds-next-slot-in-loop-row
 bounds-next-slot-in-loop-row g c = let s = c.loop-row.invariant.shaped in (move_one g.M.Ord.cmp s.want s.nodes c.loop-row.next c.loop-row.places.items c.loop-row.row c.loop-row.taken s.shape c.loop-row-test.true).0
 
-pub index_mut-requires : goal.index_mut-requires
-index_mut-requires g c =
-    let s = c.loop-row.invariant.shaped in
-    let b : c.loop-row.row < length c.loop-row.next = (move_one g.M.Ord.cmp s.want s.nodes c.loop-row.next c.loop-row.places.items c.loop-row.row c.loop-row.taken s.shape c.loop-row-test.true).0 in
-    omega (arith, s.shape.long, c.loop-row.places.ok.0)
-
 pub loop-row-init : goal.loop-row-init
 loop-row-init g c = record {
   takes = λ want H off s. takes_begins g.M.Ord.cmp want H c.args.places.now.items c.args.first c.args.next.now c.args.taken s;
@@ -37,15 +31,21 @@ pub loop-row-smaller : goal.loop-row-smaller
 loop-row-smaller g c =
     let s = c.loop-row.invariant.shaped in
     let m = move_one g.M.Ord.cmp s.want s.nodes c.loop-row.next c.loop-row.places.items c.loop-row.row c.loop-row.taken s.shape c.loop-row-test.true in
-    falls s.want c.loop-row.places.items c.loop-row.row s.shape.wanted m.1 (omega (arith, m.0, s.shape.long)) (length s.nodes, few g.M.Ord.cmp s.want s.nodes _ _ _ _ m.2)
+    subst (λ ps. length ps - sum_by is_free ps < length c.loop-row.places.items - sum_by is_free c.loop-row.places.items) (sym c.with.ensures)
+    (falls s.want c.loop-row.places.items c.loop-row.row s.shape.wanted m.1 (omega (arith, m.0, s.shape.long)) (length s.nodes, few g.M.Ord.cmp s.want s.nodes _ _ _ _ m.2))
 
 pub loop-row-preserved : goal.loop-row-preserved
 loop-row-preserved g c =
     let s = c.loop-row.invariant.shaped in
     let m = move_one g.M.Ord.cmp s.want s.nodes c.loop-row.next c.loop-row.places.items c.loop-row.row c.loop-row.taken s.shape c.loop-row-test.true in
     record {
-      takes = λ want H off k. takes_steps g.M.Ord.cmp want H c.args.places.now.items c.args.first c.loop-row.next c.loop-row.places.items c.loop-row.row c.loop-row.taken off c.loop-row-test.true (c.loop-row.invariant.takes want H off k);
-      shaped = record { want = s.want; nodes = s.nodes; shape = m.2 };
+      takes = λ want H off k. subst (λ ps. TakesChain g.M.Ord.cmp want H c.args.places.now.items c.args.first (set c.loop-row.next c.loop-row.row c.loop-row.taken) ps (get_or c.loop-row.next c.loop-row.row 0) c.loop-row.row) (sym c.with.ensures)
+          (takes_steps g.M.Ord.cmp want H c.args.places.now.items c.args.first c.loop-row.next c.loop-row.places.items c.loop-row.row c.loop-row.taken off c.loop-row-test.true (c.loop-row.invariant.takes want H off k));
+      shaped = record {
+        want = s.want;
+        nodes = s.nodes;
+        shape = subst (λ ps. Shape g.M.Ord.cmp s.want s.nodes (set c.loop-row.next c.loop-row.row c.loop-row.taken) ps (get_or c.loop-row.next c.loop-row.row 0) c.loop-row.row) (sym c.with.ensures) m.2;
+      };
     }
 
 pub returns : goal.returns

@@ -1,4 +1,4 @@
-use Rattle.std.proofs.Common.{◌≡◌, ℕ, ◌+◌, ◌*◌, ◌≤◌, ◌++◌, List, [], ◌∷◌, Option, unsigned_abs, refl, sym, ap, subst, ◌∙◌, arith}
+use Rattle.std.proofs.Common.{◌≡◌, ℕ, ◌+◌, ◌*◌, ◌≤◌, ◌++◌, List, [], ◌∷◌, Option, Some, unsigned_abs, refl, sym, ap, subst, ◌∙◌, arith}
 use Rattle.std.specs.Prelude.{IfSome}
 use Rattle.sdmp_laws.specs.Order.{Order, Grlex, degree}
 use Rattle.sdmp_laws.specs.Poly.{Term, norm, lm, AllBelow, Decreasing}
@@ -12,14 +12,16 @@ falls_alone : (ord : Order) (L : List Term) (t : Term) → L ≡ [] → Decreasi
 unfolding Decreasing AllBelow
 falls_alone ord L t e = subst (λ (A : List Term). Decreasing ord (A ++ t ∷ [])) (sym e) (tt, tt)
 
-lead_fits : (lim : ℕ) (L : List Term) → IfSome (degree_of L) (λ d. d ≤ lim) → degree (lm L) ≤ lim
+lead_is : (L : List Term) → IfSome (degree_of L) (λ d. degree (lm L) ≡ d)
 unfolding lm degree
-lead_fits lim [] h = omega arith
-lead_fits lim (t ∷ L) h = h
+lead_is [] = tt
+lead_is (t ∷ L) = refl
 
-degree_fits : (lim : ℕ) (v : List ℕ) (D L : List Term) (o : Option ℕ) → v ≡ 0 ∷ [] → D ≡ L → o ≡ degree_of L → IfSome o (λ d. d ≤ lim) → degree v + degree (lm D) ≤ lim
+degree_fits : (v : List ℕ) (D L : List Term) (o : Option ℕ) → v ≡ 2 ∷ [] → D ≡ L → o ≡ degree_of L → o ≡ Some 1 → degree v + degree (lm D) ≤ 2147483647
 unfolding degree
-degree_fits lim v D L o a b e h = omega (arith, ap degree a, ap (λ (A : List Term). degree (lm A)) b, lead_fits lim L (subst (λ (q : Option ℕ). IfSome q (λ d. d ≤ lim)) e h))
+degree_fits v D L o a b e h =
+    let one : degree (lm L) ≡ 1 = subst (λ (q : Option ℕ). IfSome q (λ d. degree (lm L) ≡ d)) (sym e ∙ h) (lead_is L) in
+    omega (arith, ap degree a, ap (λ (A : List Term). degree (lm A)) b)
 
 norm_fits : (L D E : List Term) (t : Term) (n : ℕ) → L ≡ [] → unsigned_abs t.coefficient ≡ 1 → D ≡ E → n ≡ norm E → n ≤ greatest_norm → norm (L ++ t ∷ []) * norm D ≤ greatest_norm
 norm_fits L D E t n a u b e h =
@@ -32,8 +34,8 @@ learn-requires-clause-falls g c κs =
 
 pub learn-requires-clause-degree : goal.learn-requires-clause-degree
 learn-requires-clause-degree g c κs =
-    degree_fits 2147483647 _ c.reserve.new.self.divisor c.in_ok-divisor.divisor.list c.degree.result c.in_ok-one.ensures.1
-    (ap (λ (s : QuotientState). s.divisor) c.reserve.ensures.same ∙ ap (λ (s : QuotientState). s.divisor) c.in_ok-rows.ensures) c.degree.ensures.value c.degree.ensures.limit
+    degree_fits _ c.reserve.new.self.divisor c.in_ok-divisor.divisor.list (Some c.in-Some-eq1.field-0) c.in_ok-square.ensures.1
+    (ap (λ (s : QuotientState). s.divisor) c.reserve.ensures.same ∙ ap (λ (s : QuotientState). s.divisor) c.in_ok-rows.ensures) c.in-Some-eq1.ensures.value (ap Some c.in-Some-eq1.field-0-test)
 
 pub learn-requires-clause-fits : goal.learn-requires-clause-fits
 learn-requires-clause-fits g c κs = λ z.

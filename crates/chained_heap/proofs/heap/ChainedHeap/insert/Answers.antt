@@ -31,7 +31,8 @@ invariant_of-self g c =
     let lp = length-set h.places.items c.args.row (In c.args.mono) in
     let ln = length-set h.nodes.items c.in-Chain.at (record { mono = c.index.result.now.mono; row = c.args.row }) in
     let view = c.self.view_is in
-    subst (λ m. IsChainedHeap g.M.Ord.cmp (set c.self.inside.nodes.items c.in-Chain.at (record { mono = m; row = c.args.row })) c.self.inside.len (set c.self.inside.next.items c.args.row c.index.result.now.row) (set c.self.inside.places.items c.args.row (In c.args.mono)) c.self.inside.taken) (sym same) record {
+    subst (λ ps. IsChainedHeap g.M.Ord.cmp (set c.self.inside.nodes.items c.in-Chain.at (record { mono = c.index_mut-in-Chain.result.now.mono; row = c.args.row })) c.self.inside.len (set c.self.inside.next.items c.args.row c.index.result.now.row) ps c.self.inside.taken) (sym c.with-self-inside.ensures)
+    (subst (λ m. IsChainedHeap g.M.Ord.cmp (set c.self.inside.nodes.items c.in-Chain.at (record { mono = m; row = c.args.row })) c.self.inside.len (set c.self.inside.next.items c.args.row c.index.result.now.row) (set c.self.inside.places.items c.args.row (In c.args.mono)) c.self.inside.taken) (sym same) record {
       within = omega (arith, i.within, ln);
       long = ln ∙ i.long ∙ sym lp;
       ordered = subst (λ ys. IsHeapWithin (node_lt g.M.Ord.cmp) ys 0 c.self.inside.len) (sym cut)
@@ -39,7 +40,7 @@ invariant_of-self g c =
       shape = subst (λ ys. Shape g.M.Ord.cmp never ys (set c.self.inside.next.items c.args.row c.index.result.now.row) (set c.self.inside.places.items c.args.row (In c.args.mono)) no_row c.self.inside.taken) (sym cut)
           (insert_chain g.M.Ord.cmp never (take c.self.inside.len c.self.inside.nodes.items) h.next.items h.places.items no_row h.taken i.shape c.args.row c.args.mono
           (subst (λ ps. c.args.row < length ps) (sym view) c.requires.below) ((λ k. place_at (view k) c.args.row) ∙ c.requires.out) c.in-Chain.at c.index.result.now kh is eq);
-    }
+    })
 
 pub add_node-requires-clause-within : goal.add_node-requires-clause-within
 add_node-requires-clause-within g c = λ κs m.
@@ -80,13 +81,14 @@ invariant_of-self-in-Room g c =
     let l = long_take c.self.inside.len c.self.inside.nodes.items i.within in
     let lp = length-set h.places.items c.args.row (In c.args.mono) in
     let perm = subst (λ zs. IsPermutation (take c.self.inside.len zs ++ record { mono = c.args.mono; row = c.args.row } ∷ []) (take (c.self.inside.len + 1) c.add_node.new.nodes)) e c.add_node.ensures.permutation in
-    subst (λ zs. IsChainedHeap g.M.Ord.cmp zs (c.self.inside.len + 1) (set c.self.inside.next.items c.args.row 4294967295) (set c.self.inside.places.items c.args.row (In c.args.mono)) c.self.inside.taken) (sym whole) record {
+    subst (λ ps. IsChainedHeap g.M.Ord.cmp (take c.self.inside.nodes.len (c.add_node.new.nodes ++ drop (length c.add_node.new.nodes) c.self.inside.nodes.items)) (c.self.inside.len + 1) (set c.self.inside.next.items c.args.row 4294967295) ps c.self.inside.taken) (sym c.with-self-inside-in-Room.ensures)
+    (subst (λ zs. IsChainedHeap g.M.Ord.cmp zs (c.self.inside.len + 1) (set c.self.inside.next.items c.args.row 4294967295) (set c.self.inside.places.items c.args.row (In c.args.mono)) c.self.inside.taken) (sym whole) record {
       within = omega (arith, i.long);
       long = ly ∙ i.long ∙ sym lp;
       ordered = c.add_node.ensures.ordered (subst (λ zs. IsHeapWithin (node_lt g.M.Ord.cmp) (take c.self.inside.len zs) 0 c.self.inside.len) (sym e) i.ordered);
       shape = insert_room g.M.Ord.cmp never (take c.self.inside.len c.self.inside.nodes.items) h.next.items h.places.items no_row h.taken i.shape c.args.row c.args.mono
           below ((λ k. place_at (view k) c.args.row) ∙ c.requires.out) (take (c.self.inside.len + 1) c.add_node.new.nodes) perm (eq_self o c.args.mono);
-    }
+    })
 
 pub returns-in-Chain-clause-compares : goal.returns-in-Chain-clause-compares
 returns-in-Chain-clause-compares g c = λ l b.
