@@ -1,12 +1,14 @@
--- A step that the walks of `src/ghost_list.rt` share. Assumes `Logic`.
+-- A step that the walks of `src/ghost_list.rt` share, and that a list which they make may cross threads. The step assumes `Logic`.
 use Rattle.std.proofs.Common.{List, [], ◌∷◌, refl}
 use seplogic.Ra.Ura.{Ura}
 use mir.Val.{Val, vstruct, vcons, vnil}
 use types.Logic.{Logic}
 use types.Kit.{Goal, Step, step, Item, ‵, ◌$◌, move, fjoin, fpack, feq_i}
 use denote.RattleType.{RattleType, Valss}
+use denote.Param.Send.{IsSend, owning_send, sendable}
 use denote.Steps.{nothing}
 use denote.Struct.Struct.{Struct, within}
+use Rattle.chained_heap.specs.contracts.ghost_list.GhostList as Ghost
 
 abbrev pub none : Val
 none = vstruct vnil
@@ -20,3 +22,7 @@ pub one_made : {M : Type 1} {𝓤 : Ura M} {𝓛 : Logic 𝓤} {K : Type 0} {Γ 
 one_made t R x u = step (λ s.
     nothing t $ move t (1 ∷ 0 ∷ []) $ fjoin t $ feq_i t (List Val) (one u ∷ []) (one u ∷ []) refl $ fjoin t $
     fpack t (Valss (R ∷ [])) (within (record { name = []; args = []; types = []; fields = R ∷ [] }) (x, tt) (one u ∷ [])) (u ∷ [], tt) $ s)
+
+-- a ghost list owns nothing
+pub list_send : (T : RattleType) → IsSend T → IsSend (Ghost.the_row T)
+list_send T s = owning_send (Ghost.the_type T) (search sendable, tt) (λ d. tt) (λ k x w. tt)

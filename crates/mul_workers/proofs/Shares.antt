@@ -22,7 +22,7 @@ use Rattle.row_merge.specs.contracts.merge.RowSet as RowSet
 use Rattle.row_merge.specs.contracts.rows.Rows as Rows
 use Rattle.term_ring.proofs.Shares.{snapshot_send}
 use Rattle.term_ring.specs.contracts.ring.Writer as Writer
-use Rattle.global_heap.proofs.Shares.{merge_send}
+use Rattle.global_heap.proofs.Shares.{heap_send, merge_send}
 use Rattle.turnstile.proofs.own.Own.TheSendSync as own
 use Rattle.turnstile.specs.declared.named.Named as Named
 use Rattle.turnstile.specs.contracts.turn.Pass as Pass
@@ -49,7 +49,7 @@ module _ (R M E : RattleType) (c : CoeffRing.Ghosts R.Denot E.Denot) (m : Monomi
   set_send α x y z = search (sendable, poly_sync) depth 24
 
   pub read_send : IsSend M → IsSend (Rows.the_field M m o e p).row
-  read_send s = search (sendable, crosses) depth 24
+  read_send s = search (sendable, crosses, heap_send) depth 24
 
   pub end_send : IsSend (Writer.the_field R M E c m o e p).row
   end_send = search (sendable, seat.the_send, snapshot_send) depth 24

@@ -1,7 +1,7 @@
--- A ghost list owns nothing, so it may go to another thread.
 use denote.RattleType.{RattleType}
-use denote.Param.Send.{IsSend, owning_send, sendable}
-use Rattle.chained_heap.specs.contracts.ghost_list.GhostList.{the_row, the_type}
+use denote.Param.Send.{IsSend}
+use Rattle.chained_heap.specs.contracts.ghost_list.GhostList.{the_row}
+use Rattle.chained_heap.proofs.Ghosts.{list_send}
 
 pub send : (T : RattleType) → IsSend T → IsSend (the_row T)
-send T s = owning_send (the_type T) (search sendable, tt) (λ d. tt) (λ k x w. tt)
+send = list_send
