@@ -41,19 +41,24 @@ pub record IsFirstWanting (s : MergeState) (w : ℕ) : Type 0 where
 abbrev pub IsStarved : MergeView → ℕ → Type 0
 IsStarved v w = slice_index_or v.tails w 0 ≡ length (taken_of v w)
 
+-- the reader of w looked at its ring more often than it took a note of it, so a look found none
+abbrev pub FoundEmpty : MergeView → MergeView → ℕ → Type 0
+FoundEmpty a b w = slice_index_or a.looks w 0 + length (taken_of b w) < slice_index_or b.looks w 0 + length (taken_of a w)
+
 -- why the merge answers
 abbrev pub IsCause : MergeView → MergeView → Advance → Type 0
 IsCause a b Done = IsMergeDone b.state
-IsCause a b (NeedsRing w) = IsFirstWanting b.state w × IsStarved b w × (slice_index_or a.looks w 0 < slice_index_or b.looks w 0)
+IsCause a b (NeedsRing w) = IsFirstWanting b.state w × IsStarved b w × FoundEmpty a b w
 IsCause a b OutFull = AllServed b.state × (head_terms b.state.heads ≢ []) × (b.spare ≡ 0)
 
--- notes were taken and terms emitted, in this order
+-- notes were taken, each by a look of its own, and terms emitted, in this order
 pub record Grows (a b : MergeView) : Type 0 where
   pub rings : b.rings ≡ a.rings
   pub taken : (w : ℕ) → IsPrefix (taken_of a w) (taken_of b w)
   pub emitted : (more : List Term) × (b.state.out ≡ a.state.out ++ more) × (b.spare + length more ≡ a.spare)
   pub tails : NoneBelow a.tails b.tails
   pub looks : NoneBelow a.looks b.looks
+  pub looked : (w : ℕ) → slice_index_or a.looks w 0 + length (taken_of b w) ≤ slice_index_or b.looks w 0 + length (taken_of a w)
 
 abbrev pub NotMark : Note → Type 0
 NotMark (TermNote t) = Unit {0}
@@ -102,7 +107,7 @@ pub record IsSound (lim : ℕ) (v : MergeView) : Type 0 where
 -- the first worker found to be wanting, and that each before it is served
 abbrev pub IsStarving : MergeView → MergeView → ℕ → Option ℕ → Type 0
 IsStarving a b i None = (k : ℕ) → k < i → IsServed b.state k
-IsStarving a b i (Some s) = (s < i) × IsWanting b.state s × ((k : ℕ) → k < s → IsServed b.state k) × IsStarved b s × (slice_index_or a.looks s 0 < slice_index_or b.looks s 0)
+IsStarving a b i (Some s) = (s < i) × IsWanting b.state s × ((k : ℕ) → k < s → IsServed b.state k) × IsStarved b s × FoundEmpty a b s
 
 -- each of the first i workers that was wanting was asked once for a note
 pub record Fills (a b : MergeView) (i : ℕ) (starved : Option ℕ) : Type 0 where
