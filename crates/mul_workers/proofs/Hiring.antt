@@ -11,7 +11,7 @@ use Rattle.sdmp_laws.specs.Canonical.{Polynomial}
 use Rattle.whole_laws.specs.Notes.{Note, Product, ProductScript, script_list}
 use Rattle.whole_laws.specs.Wholes.{MergeState, merge_start, notes_of}
 use Rattle.row_merge.specs.Part.{Remaining}
-use Rattle.term_ring.specs.Ends.{head_seen, IsWriterOf, IsReaderOf}
+use Rattle.term_ring.specs.Ends.{head_seen, head_loads, IsWriterOf, IsReaderOf}
 use Rattle.term_ring.specs.declared.ring.Ring.{Ring}
 use Rattle.term_ring.specs.declared.ring.Writer.{Writer}
 use Rattle.term_ring.specs.declared.ring.Reader.{Reader}
@@ -38,14 +38,14 @@ module _ {X M E : Type 0} where
   pub name_of_reader : (ring : Ring X M E) (r : Reader X M E) → IsReaderOf ring r → reader_name r ≡ ring_name ring
   name_of_reader ring r h = λ i. record { table = h.1 i; script = h.2 i; places = h.3 i }
 
-  pub hired_sender : (ring : Ring X M E) (w : Writer X M E) (k : ℕ) (s : SenderView) → IsWriterOf ring w → head_seen w ≡ 0 → s ≡ record { ring = writer_name w; worker = k; sent = []; head = head_seen w } → s ≡ record { ring = ring_name ring; worker = k; sent = []; head = 0 }
-  hired_sender ring w k s of h e = e ∙ (λ i. record { ring = name_of_writer ring w of i; worker = k; sent = []; head = h i })
+  pub hired_sender : (ring : Ring X M E) (w : Writer X M E) (k : ℕ) (s : SenderView) → IsWriterOf ring w → (head_seen w ≡ 0) × (head_loads w ≡ 0) → s ≡ record { ring = writer_name w; worker = k; sent = []; head = head_seen w; loads = head_loads w } → s ≡ record { ring = ring_name ring; worker = k; sent = []; head = 0; loads = 0 }
+  hired_sender ring w k s of h e = e ∙ (λ i. record { ring = name_of_writer ring w of i; worker = k; sent = []; head = h.0 i; loads = h.1 i })
 
 -- the ring has the script of the worker k of W, and the worker has sent nothing
 pub record IsHired (m : Product) (W k : ℕ) (name : RingName) (s : SenderView) : Type 0 where
   pub script : name.script ≡ ProductScript m W k
   pub places : 0 < name.places
-  pub sender : s ≡ record { ring = name; worker = k; sent = []; head = 0 }
+  pub sender : s ≡ record { ring = name; worker = k; sent = []; head = 0; loads = 0 }
 
 -- the first i workers have their rings
 pub record AreHired (m : Product) (W : ℕ) (names : List RingName) (team : List SenderView) (i : ℕ) : Type 0 where
@@ -91,7 +91,7 @@ module _ {A B : Type 0} (xs later : List A) (a : A) (ys after : List B) (b : B) 
 pub hired_scripts : (m : Product) (W : ℕ) (names : List RingName) (team : List SenderView) → AreHired m W names team W → HasScripts m names
 hired_scripts m W names team h w d l =
     subst (λ (n : ℕ). (get_or names w d).script ≡ ProductScript m n w) (sym h.count)
-    (h.each w d record { ring = d; worker = 0; sent = []; head = 0 } (let c = h.count in omega arith)).script
+    (h.each w d record { ring = d; worker = 0; sent = []; head = 0; loads = 0 } (let c = h.count in omega arith)).script
 
 pub hired_members : (m : Product) (W : ℕ) (names : List RingName) (team : List SenderView) → AreHired m W names team W → AreMembers names team
 hired_members m W names team h = record {

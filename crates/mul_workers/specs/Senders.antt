@@ -4,7 +4,7 @@ use mathlib.Core.List.{IsPrefix}
 use Rattle.sdmp_laws.specs.Poly.{Term}
 use Rattle.whole_laws.specs.Notes.{Note, TermNote, EndNote, Script, script_list}
 use Rattle.term_ring.specs.Spelling.{notes_of}
-use Rattle.term_ring.specs.Ends.{sent, head_seen}
+use Rattle.term_ring.specs.Ends.{sent, head_seen, head_loads}
 use Rattle.term_ring.specs.declared.ring.Writer.{Writer}
 use Rattle.term_ring.specs.declared.note.NoteOf.{NoteOf}
 use Rattle.term_ring.specs.declared.note.NoteOf.TheVariants as note
@@ -12,15 +12,16 @@ use Rattle.global_heap.specs.Names.{RingName}
 use Rattle.global_heap.specs.Merges.{MergeView, taken_of}
 use Rattle.mul_workers.specs.Writers.{writer_name}
 
--- the ring of its writer, its number, the notes that it sent, and the head that the writer saw last
+-- the ring of its writer, its number, the notes that it sent, the head that the writer saw last, and how often it loaded the head
 pub record SenderView : Type 0 where
   pub ring : RingName
   pub worker : ℕ
   pub sent : List Note
   pub head : ℕ
+  pub loads : ℕ
 
 abbrev pub sender_view : {X M E : Type 0} → (M → List ℕ) → (E → ℤ) → ℕ → Writer X M E → SenderView
-sender_view vector value worker w = record { ring = writer_name w; worker = worker; sent = notes_of vector value (sent w); head = head_seen w }
+sender_view vector value worker w = record { ring = writer_name w; worker = worker; sent = notes_of vector value (sent w); head = head_seen w; loads = head_loads w }
 
 -- the terms of the script, and then the end
 abbrev pub whole_script : Script → List Note
@@ -40,6 +41,14 @@ pub record Sends (a b : SenderView) : Type 0 where
   pub worker : b.worker ≡ a.worker
   pub sent : IsPrefix a.sent b.sent
   pub head : a.head ≤ b.head
+
+-- each push loads the head once, and each note that was sent in between had a push
+abbrev pub ArePushed : SenderView → SenderView → Type 0
+ArePushed a b = a.loads + length b.sent ≤ b.loads + length a.sent
+
+-- more pushes were made in between than notes were sent, so one was refused
+abbrev pub WasRefused : SenderView → SenderView → Type 0
+WasRefused a b = a.loads + length b.sent < b.loads + length a.sent
 
 -- its ring is the one of its number among the rings with these names
 pub record IsAmong (names : List RingName) (s : SenderView) : Type 0 where

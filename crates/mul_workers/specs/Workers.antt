@@ -7,7 +7,7 @@ use Rattle.turnstile.specs.declared.turn.Turnstile.{Turnstile}
 use Rattle.global_heap.specs.Names.{RingName}
 use Rattle.global_heap.specs.Merges.{MergeView}
 use Rattle.global_heap.specs.declared.receipt.Advanced.{Advanced}
-use Rattle.mul_workers.specs.Senders.{SenderView, IsSentWhole, IsRefused}
+use Rattle.mul_workers.specs.Senders.{SenderView, IsSentWhole, IsRefused, WasRefused}
 use Rattle.mul_workers.specs.declared.stop.Stop.{Stop}
 use Rattle.mul_workers.specs.declared.stop.Stop.TheVariants.{Ended, Full}
 
@@ -35,7 +35,7 @@ module _ {X M E : Type 0} where
   IsReceipt names p q (Some x) = (entries p < entries q) × (x.merge.value.rings ≡ names)
 
   -- why the worker stopped
-  abbrev pub IsStop : List RingName → SenderView → Option (Pass MergeView) → Option (Pass MergeView) → Stop X M E → Type 0
-  IsStop names s p q Ended = IsSentWhole s
-  IsStop names s p q (Full None) = NoEnd s.sent × IsRefused s × (busy_of p + patience ≤ busy_of q)
-  IsStop names s p q (Full (Some x)) = NoEnd s.sent × IsRefused s × (entries_of p < entries_of q) × (x.merge.value.rings ≡ names)
+  abbrev pub IsStop : List RingName → SenderView → SenderView → Option (Pass MergeView) → Option (Pass MergeView) → Stop X M E → Type 0
+  IsStop names a b p q Ended = IsSentWhole b
+  IsStop names a b p q (Full None) = NoEnd b.sent × IsRefused b × WasRefused a b × (busy_of p + patience ≤ busy_of q)
+  IsStop names a b p q (Full (Some x)) = NoEnd b.sent × IsRefused b × WasRefused a b × (entries_of p < entries_of q) × (x.merge.value.rings ≡ names)

@@ -3,11 +3,11 @@ ghost use Rattle.std.specs.Prelude.{◌≡◌, ◌+◌, ◌<◌, ◌≤◌, ℕ,
 ghost use Rattle.sdmp_laws.specs.Poly.{Term};
 ghost use Rattle.whole_laws.specs.Notes.{NoEnd, Carry, script_list};
 ghost use Rattle.term_ring.specs.Spelling.{Belongs, note_of};
-ghost use Rattle.term_ring.specs.Ends.{sent, head_seen};
+ghost use Rattle.term_ring.specs.Ends.{sent, head_seen, head_loads};
 ghost use Rattle.global_heap.specs.Names.{RingName, NoneBelow};
 ghost use Rattle.global_heap.specs.Readers.{ring_name};
 ghost use Rattle.mul_workers.specs.Writers.{writer_name, IsWriting};
-ghost use Rattle.mul_workers.specs.Senders.{IsSentWhole, IsRefused, Sends, HasMet, is_end};
+ghost use Rattle.mul_workers.specs.Senders.{IsSentWhole, IsRefused, Sends, ArePushed, WasRefused, HasMet, is_end};
 ghost use Rattle.mul_workers.specs.Inside.{script_of_rows, IsNextNote, IsUnsent, KeptBelongs};
 
 use coeff_ring::CoeffRing;
@@ -20,7 +20,7 @@ use term_ring::{Full, Note, NoteOf, Ring, Writer};
 
 /// A worker's rows, the writer of its ring, and the note that a full ring refused.
 ///
-/// Contracts see its ring, its number, the notes that it sent and the head that its writer saw last.
+/// Contracts see its ring, its number, the notes that it sent, the head that its writer saw last and how often it loaded the head.
 #[derive(Drop)]
 pub struct Sender<'a, R: CoeffRing, M: Monomial> {
     worker: u32,
@@ -77,7 +77,7 @@ impl<'a, R: CoeffRing, M: Monomial> Sender<'a, R, M> {
         requires script { (writer_name writer).script ≡ script_of_rows M.order M.VARS rows }
         requires rest { rows.rest ≡ script_list (script_of_rows M.order M.VARS rows) }
         requires sent { sent writer ≡ [] }
-        ensures { result ≡ record { ring = writer_name writer; worker = worker; sent = []; head = head_seen writer } }
+        ensures { result ≡ record { ring = writer_name writer; worker = worker; sent = []; head = head_seen writer; loads = head_loads writer } }
     {
         Sender {
             worker,
@@ -110,6 +110,7 @@ impl<'a, R: CoeffRing, M: Monomial> Sender<'a, R, M> {
         requires clear { NoEnd self.old.sent }
         ensures sends { Sends self.old self.new }
         ensures carried { Carry self.new.ring.script self.new.sent }
+        ensures loads { self.new.loads ≡ self.old.loads + 1 }
         ensures more { IfOk result (λ _. length self.new.sent ≡ length self.old.sent + 1) }
         ensures within { length self.new.sent ≤ length (script_list self.new.ring.script) + 1 }
         ensures kept { IfErr result (λ _. self.new.sent ≡ self.old.sent) }
@@ -128,9 +129,10 @@ impl<'a, R: CoeffRing, M: Monomial> Sender<'a, R, M> {
         requires ring { ring_name ring.now ≡ self.old.ring }
         ensures sends { Sends self.old self.new }
         ensures carried { Carry self.new.ring.script self.new.sent }
+        ensures pushed { ArePushed self.old self.new }
         ensures whole { IfOk result (λ _. IsSentWhole self.new) }
         ensures clear { IfErr result (λ _. NoEnd self.new.sent) }
-        ensures refused { IfErr result (λ _. IsRefused self.new) }
+        ensures refused { IfErr result (λ _. IsRefused self.new × WasRefused self.old self.new) }
     {
         while !self.has_ended() {
             self.push(ring, steps)?;

@@ -39,7 +39,7 @@ fn hire<'a, R: CoeffRing, M: Monomial>(
     ensures places { IfOk result (λ t. places_of t.0 ≡ places) }
     ensures reader { IfOk result (λ t. IsReaderOf t.0 t.1) }
     ensures taken { IfOk result (λ t. taken t.1 ≡ []) }
-    ensures worker { IfOk result (λ t. t.2.sender ≡ record { ring = ring_name t.0; worker = set.entry.worker; sent = []; head = 0 }) }
+    ensures worker { IfOk result (λ t. t.2.sender ≡ record { ring = ring_name t.0; worker = set.entry.worker; sent = []; head = 0; loads = 0 }) }
 {
     let worker = set.worker;
     let script = Script::Product {

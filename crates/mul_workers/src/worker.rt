@@ -2,7 +2,7 @@
 ghost use Rattle.std.specs.Prelude.{◌≡◌, ◌≤◌, ℕ, map, [], Some};
 ghost use Rattle.whole_laws.specs.Notes.{Carry, script_list};
 ghost use Rattle.turnstile.specs.Passes.{made_with, IsPassOf, IsOutside, entries, busy};
-ghost use Rattle.term_ring.specs.Ends.{sent, head_seen};
+ghost use Rattle.term_ring.specs.Ends.{sent, head_seen, head_loads};
 ghost use Rattle.global_heap.specs.Names.{NoneBelow};
 ghost use Rattle.global_heap.specs.Readers.{ring_name};
 ghost use Rattle.mul_workers.specs.Writers.{writer_name, IsWriting};
@@ -47,7 +47,7 @@ impl<'a, R: CoeffRing, M: Monomial> MulWorker<'a, R, M> {
         requires script { (writer_name writer).script ≡ script_of_rows M.order M.VARS rows }
         requires rest { rows.rest ≡ script_list (script_of_rows M.order M.VARS rows) }
         requires sent { sent writer ≡ [] }
-        ensures sender { result.sender ≡ record { ring = writer_name writer; worker = worker; sent = []; head = head_seen writer } }
+        ensures sender { result.sender ≡ record { ring = writer_name writer; worker = worker; sent = []; head = head_seen writer; loads = head_loads writer } }
         ensures pass { result.pass ≡ Some pass }
     {
         MulWorker {
@@ -68,7 +68,7 @@ impl<'a, R: CoeffRing, M: Monomial> MulWorker<'a, R, M> {
         requires script { (writer_name writer).script ≡ script_of_rows M.order M.VARS rows }
         requires rest { rows.rest ≡ script_list (script_of_rows M.order M.VARS rows) }
         requires sent { sent writer ≡ [] }
-        ensures sender { result.sender ≡ record { ring = writer_name writer; worker = worker; sent = []; head = head_seen writer } }
+        ensures sender { result.sender ≡ record { ring = writer_name writer; worker = worker; sent = []; head = head_seen writer; loads = head_loads writer } }
     {
         MulWorker {
             sender: Sender::new(worker, rows, writer),
@@ -92,7 +92,7 @@ impl<'a, R: CoeffRing, M: Monomial> MulWorker<'a, R, M> {
         ensures pass { HasPass turnstile.now self.new.pass }
         ensures sends { Sends self.old.sender self.new.sender }
         ensures carried { Carry self.new.sender.ring.script self.new.sender.sent }
-        ensures stop { IsStop (map ring_name rings.now) self.new.sender self.old.pass self.new.pass result }
+        ensures stop { IsStop (map ring_name rings.now) self.old.sender self.new.sender self.old.pass self.new.pass result }
     {
         let worker = self.sender.worker();
         gate.arrive(worker);
@@ -145,7 +145,7 @@ fn work<R: CoeffRing, M: Monomial>(
     ensures pass { IsPassOf turnstile.now pass.new × IsOutside pass.new }
     ensures sends { Sends sender.old sender.new }
     ensures carried { Carry sender.new.ring.script sender.new.sent }
-    ensures stop { IsStop (map ring_name rings.now) sender.new (Some pass.old) (Some pass.new) result }
+    ensures stop { IsStop (map ring_name rings.now) sender.old sender.new (Some pass.old) (Some pass.new) result }
 {
     loop {
         let Err(Full) = sender.send(ring, steps) else {

@@ -16,4 +16,4 @@ without_pass-requires-clause-rest g c κs within =
 pub returns-clause-worker : goal.returns-clause-worker
 returns-clause-worker g c =
     let r = c.in_ok-ring.ensures in
-    hired_sender c.in_ok-ring.ring c.in_ok-ring.writer c.args.set.worker c.without_pass.result.sender r.writer r.head.0 c.without_pass.ensures.sender
+    hired_sender c.in_ok-ring.ring c.in_ok-ring.writer c.args.set.worker c.without_pass.result.sender r.writer r.head c.without_pass.ensures.sender

@@ -1,7 +1,7 @@
 use Rattle.std.proofs.Common.{◌+◌, ◌-◌, ◌≤◌, length}
 use Rattle.whole_laws.specs.Notes.{script_list}
 use Rattle.turnstile.specs.Passes.{IsPassOf, IsOutside, entries, busy}
-use Rattle.mul_workers.specs.Senders.{Sends}
+use Rattle.mul_workers.specs.Senders.{Sends, ArePushed}
 use Rattle.mul_workers.proofs.worker.work.Given as goal
 
 abbrev pub invariant-loop-pass : goal.invariant-loop-pass
@@ -10,6 +10,7 @@ invariant-loop-pass g l = record {
   entries : entries l.initial.pass ≤ entries l.pass;
   busy : busy l.initial.pass ≤ busy l.pass;
   sends : Sends l.initial.sender l.sender;
+  pushed : ArePushed l.initial.sender l.sender;
 }
 
 abbrev pub decreases-loop-pass : goal.decreases-loop-pass
