@@ -1,4 +1,4 @@
-//! The heap. Its calls are inlined into the loops of a merge: there its fields stay in registers, and counts of steps that nothing reads take no time.
+//! The heap. Insertion and taking are inlined into the loop of a merge: so the heap's fields stay in registers there, and counts of steps that nothing reads take no time.
 ghost use Rattle.std.specs.Prelude.{◌≡◌, ◌≢◌, ◌+◌, ◌*◌, ◌^◌, ◌<◌, ◌≤◌, ℕ, List, length, IfOk, MatchOption, replicate, map, slice_set, slice_index_or, false};
 ghost use Rattle.chained_heap.specs.Shape.{no_row, place_at, is_taken, is_at, never, count_at, taken_at, IsTop, IsEmpty, HasShape, TakesChain, Shape};
 
@@ -91,7 +91,6 @@ impl<M: Monomial> ChainedHeap<M> {
     }
 
     /// The greatest monomial, and None exactly where no row is in the heap.
-    #[inline(always)]
     pub fn top(&self) -> Option<M>
         ensures { MatchOption result (IsEmpty self.now) (λ x. IsTop M.cmp self.now x) }
     {
@@ -135,7 +134,6 @@ impl<M: Monomial> ChainedHeap<M> {
     }
 
     /// Puts out one of the taken rows, and None exactly where none is taken.
-    #[inline(always)]
     pub fn pop_taken(&mut self) -> Option<u32>
         ensures { MatchOption
             result
@@ -153,7 +151,6 @@ impl<M: Monomial> ChainedHeap<M> {
 }
 
 // Moves the rows of the chain that begins at `first` to the front of the taken ones.
-#[inline(always)]
 fn take_chain<M: Monomial>(
     next: &mut [u32],
     places: &mut GhostList<Place<M>>,

@@ -18,7 +18,6 @@ pub enum Spot {
 }
 
 /// Looks at the root first, which has the monomial in a third of the calls where many products meet.
-#[inline(always)]
 pub fn find<M: Monomial>(nodes: &[Node<M>], mono: M, steps: &mut Steps) -> Spot
     ensures spot { IsSpot M.cmp nodes.now mono result }
     ensures compares { (l : ℕ) → length nodes.now + 1 < 2 ^ l → steps.new.compares ≤ steps.old.compares + l }
@@ -34,7 +33,6 @@ pub fn find<M: Monomial>(nodes: &[Node<M>], mono: M, steps: &mut Steps) -> Spot
 }
 
 // Follows the path from the place past the end to the root.
-#[inline(always)]
 fn climb<M: Monomial>(nodes: &[Node<M>], mono: M, steps: &mut Steps) -> Spot
     ensures spot { IsSpot M.cmp nodes.now mono result }
     ensures compares { (l : ℕ) → length nodes.now + 1 < 2 ^ (l + 1) → steps.new.compares ≤ steps.old.compares + l }
@@ -53,7 +51,6 @@ fn climb<M: Monomial>(nodes: &[Node<M>], mono: M, steps: &mut Steps) -> Spot
 }
 
 /// Moves the nodes on the path from the last place to `to` down by one place, and puts x there.
-#[inline(always)]
 pub fn lower<M: Monomial>(nodes: &mut [Node<M>], to: usize, x: Node<M>)
     requires nonempty { 0 < length nodes.old }
     requires climbs { Climbs M.cmp nodes.old x.mono (length nodes.old - 1) to }
@@ -71,7 +68,6 @@ pub fn lower<M: Monomial>(nodes: &mut [Node<M>], to: usize, x: Node<M>)
 }
 
 /// Moves nodes down the path from `at` until x fits there.
-#[inline(always)]
 pub fn rise<M: Monomial>(nodes: &mut [Node<M>], from: usize, x: Node<M>, steps: &mut Steps)
     requires { from < length nodes.old }
     ensures permutation { IsPermutation (slice_set nodes.old from x) nodes.new }
@@ -93,7 +89,6 @@ pub fn rise<M: Monomial>(nodes: &mut [Node<M>], from: usize, x: Node<M>, steps: 
 }
 
 /// The child of `at` that no child of `at` exceeds.
-#[inline(always)]
 pub fn greater_child<M: Monomial>(nodes: &[Node<M>], at: usize, steps: &mut Steps) -> usize
     requires { 2 * at + 1 < length nodes.now }
     ensures bound { (result < length nodes.now) × (at * 2 + 1 ≤ result) × (result ≤ at * 2 + 2) }
@@ -111,7 +106,6 @@ pub fn greater_child<M: Monomial>(nodes: &[Node<M>], at: usize, steps: &mut Step
 }
 
 /// The root goes, and x comes in for it.
-#[inline(always)]
 pub fn replace_root<M: Monomial>(nodes: &mut [Node<M>], x: Node<M>, steps: &mut Steps)
     ensures permutation { IsPermutation (slice_set nodes.old 0 x) nodes.new }
     ensures mends { RestoresHeap (node_cmp M.cmp) (slice_set nodes.old 0 x) 1 (length nodes.old) nodes.new }
@@ -132,7 +126,6 @@ pub fn replace_root<M: Monomial>(nodes: &mut [Node<M>], x: Node<M>, steps: &mut 
 }
 
 /// A new node comes into a heap of the first `len` nodes.
-#[inline(always)]
 pub fn add_node<M: Monomial>(nodes: &mut [Node<M>], len: usize, to: usize, x: Node<M>)
     requires within { len < length nodes.old }
     requires climbs { Climbs M.cmp (take len nodes.old) x.mono len to }
@@ -144,7 +137,6 @@ pub fn add_node<M: Monomial>(nodes: &mut [Node<M>], len: usize, to: usize, x: No
 }
 
 /// The root leaves a heap of the first `len + 1` nodes, whose last is x.
-#[inline(always)]
 pub fn remove_root<M: Monomial>(nodes: &mut [Node<M>], len: usize, x: Node<M>, steps: &mut Steps)
     requires within { len < length nodes.old }
     requires last { (d : _) → slice_index_or nodes.old len d ≡ x }

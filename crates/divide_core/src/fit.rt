@@ -12,7 +12,6 @@ use packed_monomial::Monomial;
 use step_count::Steps;
 
 /// The reduced coefficient whose product with `lead` reduces to `coef`, and None exactly where there is none. `inverse` is that of `lead`, where it is a unit; so the inverse is computed once for all terms.
-#[inline(always)]
 pub fn fitting<R: CoeffRing>(
     ring: R,
     lead: R::E,
@@ -39,7 +38,6 @@ pub fn fitting<R: CoeffRing>(
 }
 
 /// The term whose product with `lead` has the monomial and the coefficient of `term`, and None exactly where there is none.
-#[inline(always)]
 pub fn find<R: CoeffRing, M: Monomial>(
     ring: R,
     lead: Term<R, M>,

@@ -38,7 +38,6 @@ fn owed<R: CoeffRing, M: Monomial>(
 }
 
 // how the next unread term, at the place `read`, compares with the greatest product owed; None exactly where there is neither
-#[inline(always)]
 fn compared<R: CoeffRing, M: Monomial>(
     terms: &[Term<R, M>],
     read: usize,

@@ -81,7 +81,6 @@ impl<'a, R: CoeffRing, M: Monomial> RowMerge<'a, R, M> {
     /// The next term of the part's sum, and None exactly at its end. It allocates nothing.
     ///
     /// Each product is made once. For rows whose number has l binary digits, each that enters the heap costs at most l comparisons, and each that is made at most 2*l more.
-    #[inline(always)]
     pub fn next(&mut self, steps: &mut Steps) -> Option<Term<R, M>>
         ensures factors { (self.new.modulus ≡ self.old.modulus) × (self.new.f ≡ self.old.f) × (self.new.g ≡ self.old.g) × (self.new.workers ≡ self.old.workers) × (self.new.worker ≡ self.old.worker) }
         ensures next { MatchOption

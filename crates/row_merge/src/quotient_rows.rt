@@ -67,7 +67,6 @@ impl<'a, R: CoeffRing, M: Monomial> QuotientRows<'a, R, M> {
     }
 
     /// The greatest monomial at which a product of a learned term was not handed out, and None exactly where there is none. It allocates nothing.
-    #[inline(always)]
     pub fn top(&self) -> Option<M>
         ensures { MatchOption result (self.now.unread ≡ []) (λ m. IsGreatest M.order self.now.unread (M.vector m)) }
     {
@@ -142,7 +141,6 @@ impl<'a, R: CoeffRing, M: Monomial> QuotientRows<'a, R, M> {
     }
 
     /// Learns a quotient term below all terms learned. The degree of its product with the divisor's first term is at most the limit, and over the integers the norm of the learned terms times that of the divisor at most 2^127 - 1. It allocates nothing.
-    #[inline(always)]
     pub fn learn(&mut self, term: Term<R, M>, steps: &mut Steps)
         requires room { 0 < self.old.spare }
         requires belongs { R.belongs self.old.modulus term.coef }

@@ -52,7 +52,6 @@ impl<M: Monomial> Rows<M> {
     }
 
     /// Begins the first row, unless it has begun: its first product comes into the heap, where there is one.
-    #[inline(always)]
     pub fn start<R: CoeffRing>(
         &mut self,
         terms: &[Term<R, M>],
@@ -77,7 +76,6 @@ impl<M: Monomial> Rows<M> {
     }
 
     /// The sum of all products at the greatest monomial of those that were not read, which now are read, and None exactly where none is left. The sum may be zero.
-    #[inline(always)]
     pub fn next_sum<R: CoeffRing>(
         &mut self,
         ring: R,
@@ -121,7 +119,6 @@ impl<M: Monomial> Rows<M> {
     }
 
     /// The next term of the sum of all products, as `next_sum`, but sums that are zero are passed over.
-    #[inline(always)]
     pub fn next_term<R: CoeffRing>(
         &mut self,
         ring: R,

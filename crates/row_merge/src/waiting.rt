@@ -1,4 +1,4 @@
-//! Rows of products, each of which waits for the row before it: a row reads a term only after the row before it did, since its own product with that term is lower. So few products are in the heap at a time (Monagan and Pearce, "Polynomial division using dynamic arrays, heaps, and packed exponent vectors", 2007). The terms that rows read are called learned: the quotient terms so far, or all terms of the other factor. The calls of a merge are inlined into one loop, as those of the heap are.
+//! Rows of products, each of which waits for the row before it: a row reads a term only after the row before it did, since its own product with that term is lower. So few products are in the heap at a time (Monagan and Pearce, "Polynomial division using dynamic arrays, heaps, and packed exponent vectors", 2007). The terms that rows read are called learned: the quotient terms so far, or all terms of the other factor. What a row does after a product is inlined into the loop of a merge, as the calls of the heap are.
 ghost use Rattle.std.specs.Prelude.{◌≡◌, ◌+◌, ◌-◌, ◌*◌, ◌≤◌, ◌<◌, ◌^◌, ℕ, List, ◌∷◌, length, All, Some, None, slice_set, slice_index, slice_index_or, IsTrue, ◌↔◌};
 ghost use Rattle.std.specs.List.{sum_by};
 ghost use Rattle.sdmp_laws.specs.Order.{degree};
@@ -42,7 +42,6 @@ pub fn insert_if<R: CoeffRing, M: Monomial>(
 }
 
 /// How far a row may read: the first as far as the terms are learned, each other as far as the row before it.
-#[inline(always)]
 pub fn top_of(known: usize, reads: &[usize], row: usize) -> usize
     requires { row < length reads.now }
     ensures { result ≡ slice_index (known ∷ reads.now) row }
@@ -51,7 +50,6 @@ pub fn top_of(known: usize, reads: &[usize], row: usize) -> usize
 }
 
 /// Whether a row has read just as many terms.
-#[inline(always)]
 pub fn has_read(reads: &[usize], row: usize, read: usize) -> bool
     ensures { IsTrue result ↔ ((row < length reads.now) × (slice_index reads.now row ≡ read)) }
 {
