@@ -42,6 +42,7 @@ impl<'a, R: CoeffRing, M: Monomial> Model for Sender<'a, R, M> {
 }
 
 // the note that was kept, or else the next of the rows, and the end after the last
+#[inline(always)]
 fn next_note<R: CoeffRing, M: Monomial>(
     kept: Option<Note<R, M>>,
     rows: &mut RowMerge<'_, R, M>,
@@ -60,6 +61,7 @@ fn next_note<R: CoeffRing, M: Monomial>(
     }
 }
 
+#[inline(always)]
 fn is_end<M, E>(note: &NoteOf<M, E>) -> bool
     ensures { result ≡ is_end note.now }
 {
@@ -96,6 +98,7 @@ impl<'a, R: CoeffRing, M: Monomial> Sender<'a, R, M> {
     }
 
     /// Whether the end is sent.
+    #[inline(always)]
     pub fn has_ended(&self) -> bool
         ensures yes { IsTrue result → IsSentWhole self.now }
         ensures no { result ≡ false → NoEnd self.now.sent }
@@ -105,6 +108,7 @@ impl<'a, R: CoeffRing, M: Monomial> Sender<'a, R, M> {
     }
 
     /// Sends the next note, or keeps it where the ring is full.
+    #[inline(always)]
     pub fn push(&mut self, ring: &Ring<R, M>, steps: &mut Steps) -> Result<(), Full>
         requires ring { ring_name ring.now ≡ self.old.ring }
         requires clear { NoEnd self.old.sent }
@@ -117,11 +121,17 @@ impl<'a, R: CoeffRing, M: Monomial> Sender<'a, R, M> {
         ensures refused { IfErr result (λ _. IsRefused self.new) }
     {
         let note = next_note(self.kept, &mut self.rows, steps);
-        self.kept = Some(note);
-        self.writer.push(ring, note)?;
-        self.kept = None;
-        self.has_ended = is_end(&note);
-        Ok(())
+        match self.writer.push(ring, note) {
+            Ok(()) => {
+                self.kept = None;
+                self.has_ended = is_end(&note);
+                Ok(())
+            }
+            Err(Full) => {
+                self.kept = Some(note);
+                Err(Full)
+            }
+        }
     }
 
     /// Sends all notes up to the end, or until the ring is full.
