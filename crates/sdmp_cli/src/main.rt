@@ -19,14 +19,7 @@ fn main(rt: HostRuntime) -> ExitCode {
             }
             let mut source = RealSource::new(rt.stdin());
             let mut sink = RealSink::new(rt.stdout());
-            run(
-                &rt,
-                rt.alloc(),
-                &words,
-                &mut source,
-                &mut sink,
-                &OpenGate,
-            )
+            run(&rt, rt.alloc(), &words, &mut source, &mut sink, &OpenGate)
         }
         Err(error) if error.kind() == ErrorKind::OutOfMemory => Status::NoMemory,
         // a word that isn't UTF-8

@@ -7,9 +7,7 @@ ghost use Rattle.calc_session.specs.View.{held};
 
 use crate::division::{quotient, remainder};
 use crate::workers::{Workers, product};
-use calc_session::{
-    BodySession, Line, LineFault, parse_line, write_line, write_none, write_pair,
-};
+use calc_session::{BodySession, Line, LineFault, parse_line, write_line, write_none, write_pair};
 use canonical_terms::Poly;
 use coeff_ring::CoeffRing;
 use packed_monomial::Monomial;

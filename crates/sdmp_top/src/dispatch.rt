@@ -109,12 +109,5 @@ fn answer_in<T: Threads + Sync, G: Gate, R: CoeffRing, M: Monomial, K: Sink>(
     ensures { IsAnswering (body_answers (setting_of header.entry.names (characteristic_of header.entry.ring)) undefined header.entry.line (lines header.entry.body.now)) (K.held sink.old) (K.held sink.new) (K.faults sink.old) (K.faults sink.new) (K.at_last sink.new) result }
 {
     let mut session = BodySession::<R, M>::new(alloc, ring, header.names);
-    answer_lines(
-        alloc,
-        by,
-        &mut session,
-        header.line,
-        header.body,
-        sink,
-    )
+    answer_lines(alloc, by, &mut session, header.line, header.body, sink)
 }

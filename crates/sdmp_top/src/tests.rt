@@ -200,7 +200,10 @@ fn refuses_a_long_input(rt: HostRuntime) -> Result<(), Fail> {
     );
     assert_eq!(rt; sink.count(), 0);
     let mut source = SteadySource::new(FIRST.as_bytes().to_vec(rt.alloc())?);
-    assert_eq!(rt; run(&rt, rt.alloc(), &[], &mut source, &mut sink, &OpenGate), Status::Done);
+    assert_eq!(rt;
+        run(&rt, rt.alloc(), &[], &mut source, &mut sink, &OpenGate),
+        Status::Done
+    );
     assert_eq!(rt; sink.count(), 6);
     Ok(())
 }
