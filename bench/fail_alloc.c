@@ -7,6 +7,7 @@
 #include <stddef.h>
 #include <stdio.h>
 #include <stdlib.h>
+#include <sys/syscall.h>
 #include <unistd.h>
 
 extern void *__libc_malloc(size_t);
@@ -26,7 +27,10 @@ static int fails(void)
         read_words = 1;
     }
     unsigned long now = __atomic_add_fetch(&seen, 1, __ATOMIC_RELAXED);
-    return chosen != 0 && (now == chosen || (all && now > chosen));
+    if (chosen == 0 || (now != chosen && !(all && now > chosen)))
+        return 0;
+    errno = ENOMEM; /* the C library asserts it where a thread's stack can't be had */
+    return 1;
 }
 
 void *malloc(size_t size) { return fails() ? NULL : __libc_malloc(size); }
@@ -42,6 +46,16 @@ int posix_memalign(void **out, size_t align, size_t size)
         return ENOMEM;
     *out = made;
     return 0;
+}
+
+/* a program with threads ends by _exit, which calls no destructor */
+static void tell(void);
+
+void _exit(int status)
+{
+    tell();
+    syscall(SYS_exit_group, status);
+    __builtin_unreachable();
 }
 
 __attribute__((destructor)) static void tell(void)
