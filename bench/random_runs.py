@@ -6,8 +6,8 @@
 Two sessions: (1+x+y+z+t)^12 times itself plus 1, and that product divided by
 the power again. Their answers are computed here by plain dictionaries. The
 first is run N times (1000), each time with a random number of workers and of
-places, so many runs beside each other (8) that the processors are short; the
-second a tenth as often. Each run has to write the same bytes.
+places, the logarithm of which is drawn evenly, so many runs beside each other
+(8) that the processors are short; the second a tenth as often. Each run has to write the same bytes.
 
 Exit status: 0, or 1 where a run wrote something else.
 """
@@ -64,7 +64,7 @@ def main():
     wrong = made = 0
     with concurrent.futures.ThreadPoolExecutor(words.beside) as pool:
         for (session, answer), runs in zip(sessions(), (words.runs, words.runs // 10)):
-            settings = [(draw.randint(1, 64), draw.choice([2, 3, draw.randint(4, 64), draw.randint(65, 65536)])) for _ in range(runs)]
+            settings = [(draw.randint(1, 64), int(2 ** draw.uniform(1, 16))) for _ in range(runs)]
             asked = [(pool.submit(is_right, words.sdmp, session, answer, *s), s) for s in settings]
             for result, (workers, places) in asked:
                 made += 1
