@@ -29,7 +29,6 @@ pub const PATIENCE: u64 = 64;
 pub struct MulWorker<'a, R: CoeffRing, M: Monomial> {
     pub(crate) sender: Sender<'a, R, M>,
     pub(crate) pass: Option<Pass<Merge<R, M>>>,
-    pub(crate) steps: Steps,
 }
 
 impl<'a, R: CoeffRing, M: Monomial> MulWorker<'a, R, M> {
@@ -53,7 +52,6 @@ impl<'a, R: CoeffRing, M: Monomial> MulWorker<'a, R, M> {
         MulWorker {
             sender: Sender::new(worker, rows, writer),
             pass: Some(pass),
-            steps: Steps::new(),
         }
     }
 
@@ -73,7 +71,6 @@ impl<'a, R: CoeffRing, M: Monomial> MulWorker<'a, R, M> {
         MulWorker {
             sender: Sender::new(worker, rows, writer),
             pass: None,
-            steps: Steps::new(),
         }
     }
 
@@ -106,7 +103,7 @@ impl<'a, R: CoeffRing, M: Monomial> MulWorker<'a, R, M> {
             turnstile,
             &mut self.sender,
             pass,
-            &mut self.steps,
+            &mut Steps::new(),
         )
     }
 

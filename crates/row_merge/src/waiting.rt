@@ -91,6 +91,7 @@ fn move_on<R: CoeffRing, M: Monomial>(
 }
 
 /// The sum of the products of the taken rows, all at `mono`; each of the rows moves on.
+#[inline(always)]
 pub fn sum_at<R: CoeffRing, M: Monomial>(
     ring: R,
     mono: M,

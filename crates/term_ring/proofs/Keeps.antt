@@ -1,5 +1,5 @@
 -- Each step keeps the rule of the ring.
-use Rattle.std.proofs.Common.{◌≡◌, ◌≢◌, ℕ, zero, suc, ◌+◌, ◌*◌, ◌%◌, ◌^◌, ◌<◌, ◌≤◌, List, [], ◌∷◌, ◌++◌, length, get_or, set, sym, refl, ap, ◌∙◌, subst, ⊎_elim, arith, Some, le_refl, length-set, length-append, get_or-set_other, get_or-set_same, append_assoc, append-nil}
+use Rattle.std.proofs.Common.{◌≡◌, ◌≢◌, ℕ, zero, suc, ◌+◌, ◌-◌, ◌*◌, ◌%◌, ◌^◌, ◌<◌, ◌≤◌, List, [], ◌∷◌, ◌++◌, length, get_or, set, sym, refl, ap, ◌∙◌, subst, ⊎_elim, arith, Some, le_refl, length-set, length-append, get_or-set_other, get_or-set_same, append_assoc, append-nil}
 use mathlib.Core.List.{IsPrefix}
 use mathlib.Core.Logic.{dite}
 use mathlib.Core.Option.{none, some, some-injective, some-ne-none}
@@ -142,19 +142,19 @@ module _ {N C : Type 0} (words : N → List ℕ) (fits : C → N → Type 0) (ca
         (refl, omega arith, omega arith, omega arith, omega arith, subst (IsPrefix m.0.told) (sym p.all) (prefix_trans m.0.told r.taken (r.taken ++ r.inside) p.heard (prefix_more r.taken r.inside))),
       )
 
-  pub puts : (slots id : ℕ) (m : M) (k i b : ℕ) → m.0.kind ≡ Writing → length m.0.words ≡ k → k < 5 → length m.0.notes < m.0.seen + m.0.places → i ≡ place m.0.places (length m.0.notes) k
-      → Allows Rule slots id m i (λ _. b) (λ _. Puts (step slots i b 0 none) m b)
-  puts slots id m k i b is long few room here s r _ at _ =
+  -- the writer knows the words `now` of its next place, the last of which is written there
+  pens : (s : St) (r : Rule s) (id : ℕ) (m : M) (k i b : ℕ) (now : List ℕ) → get_elem? s.views id ≡ some m.0 → m.0.kind ≡ Writing → k < 5 → length m.0.notes < m.0.seen + m.0.places → i ≡ place m.0.places (length m.0.notes) k
+      → k ≤ length m.0.words → length now ≡ k + 1 → ((c : ℕ) → c < k → get_or now c 0 ≡ get_or m.0.words c 0) → get_or now k 0 ≡ b → Rule (stepped s i b id m.1 (record m.0 { words = now }) keeps)
+  pens s r id m k i b now at is few room here known longer_now before last =
       let p : WriterKnows script places r.taken r.inside r.stored r.parted r.writer id m.0 = knows s r id m.0 Writing at is in
-      let w : View' = record m.0 { words = m.0.words ++ b ∷ [] } in let now : List ℕ = r.stored ++ b ∷ [] in
+      let w : View' = record m.0 { words = now } in
       let all : length m.0.notes ≡ length r.taken + length r.inside = ap length p.all ∙ sent_length s r in
       let saw = p.saw in let sized = p.sized in let wide = r.wide in let some_place = r.some_place in
-      let kept : length r.stored ≡ k = ap length (sym p.wrote) ∙ long in
+      let kept : length r.stored ≡ length m.0.words = ap length (sym p.wrote) in
       let at_here : i ≡ place places (length r.taken + length r.inside) k = here ∙ (λ j. place (sized j) (all j) k) in
       let low : 2 ≤ i = subst (λ (z : ℕ). 2 ≤ z) (sym at_here) (place_above places (length r.taken + length r.inside) k) in
       let high : i < length s.words = subst (λ (z : ℕ). z < length s.words) (sym at_here) (subst (λ (z : ℕ). place places (length r.taken + length r.inside) k < z) (sym wide) (place_below places (length r.taken + length r.inside) k some_place few)) in
       let fewer : length r.inside < places = omega arith in
-      let longer_now : length now ≡ k + 1 = length-append r.stored (b ∷ []) ∙ ap (λ (z : ℕ). z + 1) kept in
       let mine : WriterKnows script places r.taken r.inside now r.parted r.writer id w = record {
         begun = p.begun;
         mine = p.mine;
@@ -162,43 +162,61 @@ module _ {N C : Type 0} (words : N → List ℕ) (fits : C → N → Type 0) (ca
         sized = p.sized;
         all = p.all;
         saw = p.saw;
-        wrote = ap (λ l. l ++ b ∷ []) p.wrote;
+        wrote = refl;
         heard = p.heard;
-      } in (
-        w,
+      } in record {
+        taken = r.taken;
+        inside = r.inside;
+        stored = now;
+        parted = r.parted;
+        writer = r.writer;
+        reader = r.reader;
+        some_place = r.some_place;
+        wide = length-set s.words i b ∙ r.wide;
+        head_is = get_or-set_other s.words i 0 b 0 (λ e. omega arith) ∙ r.head_is;
+        tail_is = get_or-set_other s.words i 1 b 0 (λ e. omega arith) ∙ r.tail_is;
+        room = r.room;
+        few = r.few;
+        carried = r.carried;
+        good = r.good;
+        spelt = λ j n e c l. get_or-set_other s.words i (place places (length r.taken + j) c) b 0
+            (λ same. apart places (length r.taken + j) (length r.taken + length r.inside) c k
+            (λ turn. let inside_j : j < length r.inside = within r.inside j n e in let one = one_turn (length r.taken + j) (length r.taken + length r.inside) places (omega arith) (omega arith) turn in omega arith) l few (same ∙ at_here))
+            ∙ r.spelt j n e c l;
+        short = omega arith;
+        free = λ _. fewer;
+        next = λ c l. dite (ℕ_discrete c k)
+            (λ e. ap (λ (z : ℕ). get_or (set s.words i b) z 0) (ap (place places (length r.taken + length r.inside)) e ∙ sym at_here) ∙ (get_or-set_same s.words i b 0 high ∙ (sym last ∙ ap (λ (z : ℕ). get_or now z 0) (sym e))))
+            (λ ne. let first : c < k = omega arith in
+            get_or-set_other s.words i (place places (length r.taken + length r.inside) c) b 0
+            (λ same. let x : ℕ = (length r.taken + length r.inside) % places in let same' : 2 + 5 * x + c ≡ 2 + 5 * x + k = same ∙ at_here in ne (omega arith))
+            ∙ (r.next c (omega arith) ∙ (ap (λ l. get_or l c 0) (sym p.wrote) ∙ sym (before c first))));
+        each_seat = seats_stay words script places (Knows words script places r.taken r.inside now r.parted r.writer r.reader) s.views id w (subst (KnowsAs words script places r.taken r.inside now r.parted r.writer r.reader id w) (sym is) mine)
+            (λ j v other e. beside_writer words script places r.taken r.inside r.inside r.stored now r.parted r.writer r.reader j (λ same. other (same ∙ sym p.mine)) (prefix_self (r.taken ++ r.inside)) (le_refl _) p.begun (λ n first _. first) v v.kind
+            (r.each_seat j v e));
+      }
+
+  pub finds : (slots id : ℕ) (m : M) (k i : ℕ) → m.0.kind ≡ Writing → length m.0.words ≡ k → k < 5 → length m.0.notes < m.0.seen + m.0.places → i ≡ place m.0.places (length m.0.notes) k
+      → Allows Rule slots id m i (λ x. x) (Peeks (step slots i 0 0 none) m)
+  finds slots id m k i is long few room here s r _ at _ =
+      let b : ℕ = get_or s.words i 0 in let now : List ℕ = m.0.words ++ b ∷ [] in
+      let longer_now : length now ≡ k + 1 = length-append m.0.words (b ∷ []) ∙ ap (λ (z : ℕ). z + 1) long in (
+        record m.0 { words = now },
         keeps,
         tt,
-        record {
-          taken = r.taken;
-          inside = r.inside;
-          stored = now;
-          parted = r.parted;
-          writer = r.writer;
-          reader = r.reader;
-          some_place = r.some_place;
-          wide = length-set s.words i b ∙ r.wide;
-          head_is = get_or-set_other s.words i 0 b 0 (λ e. omega arith) ∙ r.head_is;
-          tail_is = get_or-set_other s.words i 1 b 0 (λ e. omega arith) ∙ r.tail_is;
-          room = r.room;
-          few = r.few;
-          carried = r.carried;
-          good = r.good;
-          spelt = λ j n e c l. get_or-set_other s.words i (place places (length r.taken + j) c) b 0
-              (λ same. apart places (length r.taken + j) (length r.taken + length r.inside) c k
-              (λ turn. let inside_j : j < length r.inside = within r.inside j n e in let one = one_turn (length r.taken + j) (length r.taken + length r.inside) places (omega arith) (omega arith) turn in omega arith) l few (same ∙ at_here))
-              ∙ r.spelt j n e c l;
-          short = omega arith;
-          free = λ _. fewer;
-          next = λ c l. dite (ℕ_discrete c k)
-              (λ e. ap (λ (z : ℕ). get_or (set s.words i b) z 0) (ap (place places (length r.taken + length r.inside)) e ∙ sym at_here) ∙ (get_or-set_same s.words i b 0 high ∙ sym (index_snoc_last r.stored b c (e ∙ sym kept))))
-              (λ ne. let before : c < length r.stored = omega arith in
-              get_or-set_other s.words i (place places (length r.taken + length r.inside) c) b 0
-              (λ same. let x : ℕ = (length r.taken + length r.inside) % places in let same' : 2 + 5 * x + c ≡ 2 + 5 * x + k = same ∙ at_here in ne (omega arith))
-              ∙ (r.next c before ∙ sym (index_snoc_before r.stored b c before)));
-          each_seat = seats_stay words script places (Knows words script places r.taken r.inside now r.parted r.writer r.reader) s.views id w (subst (KnowsAs words script places r.taken r.inside now r.parted r.writer r.reader id w) (sym is) mine)
-              (λ j v other e. beside_writer words script places r.taken r.inside r.inside r.stored now r.parted r.writer r.reader j (λ same. other (same ∙ sym p.mine)) (prefix_self (r.taken ++ r.inside)) (le_refl _) p.begun (λ n first _. first) v v.kind
-              (r.each_seat j v e));
-        },
+        pens s r id m k i b now at is few room here (omega arith) longer_now (λ c l. index_snoc_before m.0.words b c (omega arith)) (index_snoc_last m.0.words b k (sym long)),
+        refl,
+      )
+
+  pub puts : (slots id : ℕ) (m : M) (k i b : ℕ) → m.0.kind ≡ Writing → length m.0.words ≡ k + 1 → k < 5 → length m.0.notes < m.0.seen + m.0.places → i ≡ place m.0.places (length m.0.notes) k
+      → Allows Rule slots id m i (λ _. b) (λ _. Puts (step slots i b 0 none) m b)
+  puts slots id m k i b is long few room here s r _ at _ =
+      let now : List ℕ = set m.0.words (length m.0.words - 1) b in let at_k : length m.0.words - 1 ≡ k = omega arith in (
+        record m.0 { words = now },
+        keeps,
+        tt,
+        pens s r id m k i b now at is few room here (omega arith) (length-set m.0.words (length m.0.words - 1) b ∙ long) (λ c l. get_or-set_other m.0.words (length m.0.words - 1) c b 0 (λ e. omega arith))
+            (ap (λ (z : ℕ). get_or now z 0) (sym at_k) ∙ get_or-set_same m.0.words (length m.0.words - 1) b 0 (omega arith)),
         refl,
       )
 

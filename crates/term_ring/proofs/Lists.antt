@@ -1,8 +1,9 @@
 -- Lists and places.
-use Rattle.std.proofs.Common.{◌≡◌, ◌≢◌, ◌⊎◌, ℕ, zero, suc, ◌+◌, ◌*◌, ◌%◌, ◌<◌, ◌≤◌, List, [], ◌∷◌, ◌++◌, length, get_or, sym, refl, ap, ◌∙◌, ⊎_elim, inl, inr, arith, length-append, append_assoc, append-nil}
+use Rattle.std.proofs.Common.{◌≡◌, ◌≢◌, ◌⊎◌, ℕ, zero, suc, ◌+◌, ◌-◌, ◌*◌, ◌%◌, ◌<◌, ◌≤◌, List, [], ◌∷◌, ◌++◌, length, get_or, set, sym, refl, ap, ◌∙◌, ⊎_elim, inl, inr, arith, length-append, append_assoc, append-nil}
 use mathlib.Core.List.{IsPrefix}
 use mathlib.Core.Option.{some, some-injective, some-ne-none}
 use lib.ListN.{get_elem?}
+use Rattle.std.proofs.lemmas.List.{set-append_right}
 use Rattle.term_ring.specs.Rule.{Comparable, place}
 
 module _ {A : Type 0} where
@@ -58,6 +59,12 @@ index_snoc_last [] r zero h = refl
 index_snoc_last [] r (suc k) h = absurd (omega arith)
 index_snoc_last (x ∷ xs) r zero h = absurd (omega arith)
 index_snoc_last (x ∷ xs) r (suc k) h = index_snoc_last xs r k (omega arith)
+
+-- the last element is another
+pub set_last : (xs : List ℕ) (r b : ℕ) → set (xs ++ r ∷ []) (length (xs ++ r ∷ []) - 1) b ≡ xs ++ b ∷ []
+set_last xs r b =
+    let n : ℕ = length xs in let i : ℕ = length (xs ++ r ∷ []) - 1 in let e : length (xs ++ r ∷ []) ≡ n + 1 = length-append xs (r ∷ []) in let zero_on : i - n ≡ 0 = omega arith in
+    set-append_right xs (r ∷ []) n i b refl (omega arith) ∙ ap (λ (z : ℕ). xs ++ set (r ∷ []) z b) zero_on
 
 -- two lists of one length with the same elements
 pub same_list : (xs ys : List ℕ) → length xs ≡ length ys → ((k : ℕ) → k < length xs → get_or xs k 0 ≡ get_or ys k 0) → xs ≡ ys

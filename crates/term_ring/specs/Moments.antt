@@ -22,7 +22,7 @@ module _ {N C : Type 0} (words : N → List ℕ) (carry : C → List N → Type 
     pub tail : slice_index s.words 1 ≡ length w.notes
     pub head_seen : w.seen ≤ slice_index s.words 0
     pub tail_seen : r.seen ≤ slice_index s.words 1
-    -- the words that the writer has stored are the first in the place of its next note, which holds no note inside
+    -- the words that the writer knows or has stored are the first in the place of its next note, which holds no note inside
     pub stored : (k : ℕ) → k < length w.words → slice_index s.words (place places (length w.notes) k) ≡ slice_index w.words k
     pub stored_apart : 0 < length w.words → length inside < places
     -- the words that the reader has read are the first of the next note

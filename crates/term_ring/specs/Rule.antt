@@ -16,7 +16,7 @@ Comparable xs ys = IsPrefix xs ys ⊎ IsPrefix ys xs
 abbrev pub place : ℕ → ℕ → ℕ → ℕ
 place places i k = 2 + 5 * (i % places) + k
 
--- what the writer knows, where these notes were taken, these are inside and these words of the next one are stored
+-- what the writer knows, where these notes were taken, these are inside and these words begin the next place
 pub record WriterKnows {N C : Type 0} (script : C) (places : ℕ) (taken inside : List N) (stored : List ℕ) (parted writer seat : ℕ) (v : View N C) : Type 0 where
   pub begun : parted ≡ 1
   pub mine : seat ≡ writer
@@ -70,7 +70,7 @@ module _ {N C : Type 0} (words : N → List ℕ) (script : C) (places : ℕ) (ta
 pub record IsRing {S N C : Type 0} (words : N → List ℕ) (fits : C → N → Type 0) (carry : C → List N → Type 0) (script : C) (places : ℕ) (s : State S (View N C)) : Type 0 where
   pub taken : List N
   pub inside : List N
-  -- the words of the next note that the writer has stored
+  -- the first words of the next place, as far as the writer knows or has stored them
   pub stored : List ℕ
   -- 0 until the reader's seat is split off, and then 1
   pub parted : ℕ

@@ -1,5 +1,5 @@
 -- What each kind of step tells the seat that makes it, and how seats are split and joined.
-use Rattle.std.specs.Prelude.{◌≡◌, ℕ, ◌+◌, ◌^◌, ◌≤◌, List, [], ◌∷◌, ◌++◌, length, Some, None}
+use Rattle.std.specs.Prelude.{◌≡◌, ℕ, ◌+◌, ◌-◌, ◌^◌, ◌≤◌, List, [], ◌∷◌, ◌++◌, length, set, Some, None}
 use mathlib.Core.List.{IsPrefix}
 use Rattle.atomic_table.specs.Table.{Me, Step}
 use Rattle.term_ring.specs.declared.view.View.{View}
@@ -49,9 +49,9 @@ module _ {S N C : Type 0} where
       × (length m.0.told ≤ r)
       × IsPrefix m.0.told m.0.notes
 
-  -- a store of a word of the next note
+  -- a store over the last word that the writer knows of the next place
   abbrev pub Puts : Step S → Me S (View N C) → ℕ → Me S (View N C) → Type 0
-  Puts st m r w = w ≡ (record m.0 { words = m.0.words ++ st.first ∷ [] }, m.1)
+  Puts st m r w = w ≡ (record m.0 { words = set m.0.words (length m.0.words - 1) st.first }, m.1)
 
   -- a store of the tail: the note that the words spell is sent
   abbrev pub Sends : (N → List ℕ) → (C → N → Type 0) → Step S → Me S (View N C) → ℕ → Me S (View N C) → Type 0
@@ -69,7 +69,7 @@ module _ {S N C : Type 0} where
       × (length m.0.told ≤ r)
       × Comparable m.0.notes m.0.told
 
-  -- a load of a word of the next note
+  -- a load of a word of the next place, by either end
   abbrev pub Peeks : Step S → Me S (View N C) → ℕ → Me S (View N C) → Type 0
   Peeks st m r w = w ≡ (record m.0 { words = m.0.words ++ r ∷ [] }, m.1)
 

@@ -13,7 +13,7 @@ use atomic_table::Seat;
 use coeff_ring::CoeffRing;
 use packed_monomial::Monomial;
 
-// stores the words of the next note into its place
+// spells the next note in its place; a word that stands there already is left, since a store takes far longer than a load
 fn write_note<R: CoeffRing, M: Monomial>(
     ring: &Ring<R, M>,
     seat: &mut Seat<(), RingView<R, M>>,
@@ -26,9 +26,14 @@ fn write_note<R: CoeffRing, M: Monomial>(
     requires free { length seat.old.me.0.notes < seat.old.me.0.seen + places_of ring.now }
     ensures { (seat.new.table_id ≡ seat.old.table_id) × (seat.new.id ≡ seat.old.id) × (seat.new.me ≡ (record seat.old.me.0 { words = bits.now }, seat.old.me.1)) }
 {
+    let shared = &ring.table.shared;
     let base = 2 + 5 * slot as usize;
     for k in 0..5 {
-        ring.table.shared.store::<Put>(seat, base + k, bits[k]);
+        let word = bits[k];
+        if shared.load::<Peek>(seat, base + k) == word {
+            continue;
+        }
+        shared.store::<Put>(seat, base + k, word);
     }
 }
 
@@ -121,6 +126,7 @@ impl<R: CoeffRing, M: Monomial> Reader<R, M> {
         ensures told { told_sent self.new ≡ told_sent self.old }
         ensures next { Comparable (taken self.new) (told_sent self.old) }
         ensures taken { IfOk result (λ n. taken self.new ≡ taken self.old ++ n ∷ []) }
+        ensures found { IfOk result (λ _. length (taken self.old) < tail_seen self.new) }
         ensures fits { IfOk result (λ n. Fits R.belongs (script_in ring.now) n) }
         ensures carries { IfOk result (λ _. Carries M.vector R.value (script_in ring.now) (taken self.new)) }
         ensures few { IfOk result (λ _. length (taken self.new) ≤ 2 ^ 63) }

@@ -41,7 +41,7 @@ impl<N, C> Play<(), View<N, C>> for LookAtHead {
     ghost then = { LooksAtHead };
 }
 
-/// A store of a word of the next note.
+/// A store over the word that the writer loaded last.
 pub(crate) struct Put;
 
 impl<N, C> Play<(), View<N, C>> for Put {
@@ -64,7 +64,7 @@ impl<N, C> Play<(), View<N, C>> for LookAtTail {
     ghost then = { LooksAtTail };
 }
 
-/// A load of a word of the next note.
+/// A load of a word of the next place, by either end.
 pub(crate) struct Peek;
 
 impl<N, C> Play<(), View<N, C>> for Peek {

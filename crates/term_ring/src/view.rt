@@ -26,7 +26,7 @@ pub struct View<N, C> {
     pub seen: u64,
     /// How often it loaded that word.
     pub loads: u64,
-    /// The words that are stored, or read, of the next note.
+    /// The first words of the next place, as far as the writer knows or has stored them, or the reader has read them.
     pub words: LinkedList<u64>,
     /// What the other end had taken, or sent, when the two last met.
     pub told: LinkedList<N>,
