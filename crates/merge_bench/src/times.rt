@@ -9,7 +9,8 @@ use packed_monomial::Monomial;
 use row_merge::product;
 use std::alloc::Global;
 use std::io;
-use std::time::Instant;
+use std::thread::Threads;
+use std::time::{Clock, Instant};
 use turnstile::OpenGate;
 
 const RUNS: u32 = 5;
@@ -17,53 +18,43 @@ const RUNS: u32 = 5;
 // as many as the program has by itself
 const PLACES: u32 = 1024;
 
-/// Makes the product both ways, and prints the number of its terms and the best times. The factor with fewer terms has the rows.
-pub fn compare<M: Monomial>(
-    rt: &HostRuntime,
-    alloc: Global,
-    f: &Poly<Integers, M>,
-    g: &Poly<Integers, M>,
-) -> io::Result<()>
-    requires moduli { f.now.modulus ≡ g.now.modulus }
-{
-    if f.terms().len() <= g.terms().len() {
-        by_rows(rt, alloc, f, g)
-    } else {
-        by_rows(rt, alloc, g, f)
-    }
+/// The number of a product's terms, and the least nanoseconds by one merge and by one worker.
+#[derive(Clone, Copy, Debug, PartialEq, Eq)]
+pub struct Times {
+    pub terms: usize,
+    pub merge: u128,
+    pub worker: u128,
 }
 
-// the same, where the first factor has the rows
-fn by_rows<M: Monomial>(
-    rt: &HostRuntime,
+/// Makes the product both ways in turn, by rows of `f`. None where it is too large, or memory is wanting.
+pub fn measure<T: Threads + Sync + Clock, M: Monomial>(
+    rt: &T,
     alloc: Global,
     f: &Poly<Integers, M>,
     g: &Poly<Integers, M>,
-) -> io::Result<()>
+) -> io::Result<Option<Times>>
     requires moduli { f.now.modulus ≡ g.now.modulus }
 {
     let Ok(()) = product_room(f, g) else {
-        return eprintln!(rt; "the product is too large");
+        return Ok(None);
     };
-    let mut terms = 0;
-    let mut merge = u128::MAX;
-    let mut worker = u128::MAX;
+    let mut times = Times {
+        terms: 0,
+        merge: u128::MAX,
+        worker: u128::MAX,
+    };
     for _ in 0..RUNS {
         let start = Instant::now(rt)?;
-        let Ok(made) = product(alloc, f, g) else {
-            return eprintln!(rt; "no memory");
+        let Ok(poly) = product(alloc, f, g) else {
+            return Ok(None);
         };
-        merge = merge.min(start.elapsed(rt)?.as_nanos());
-        terms = made.terms().len();
+        times.merge = times.merge.min(start.elapsed(rt)?.as_nanos());
+        times.terms = poly.terms().len();
         let start = Instant::now(rt)?;
-        let Ok(made) = multiply(rt, alloc, f, g, 1, PLACES, &OpenGate) else {
-            return eprintln!(rt; "no memory");
+        let Ok(_) = multiply(rt, alloc, f, g, 1, PLACES, &OpenGate) else {
+            return Ok(None);
         };
-        worker = worker.min(start.elapsed(rt)?.as_nanos());
-        if made.poly.terms().len() != terms {
-            return eprintln!(rt; "the products differ");
-        }
+        times.worker = times.worker.min(start.elapsed(rt)?.as_nanos());
     }
-    println!(rt; "{terms} terms")?;
-    eprintln!(rt; "merge {merge} ns, worker {worker} ns")
+    Ok(Some(times))
 }
