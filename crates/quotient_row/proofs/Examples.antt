@@ -10,9 +10,9 @@ use Rattle.sdmp_laws.specs.Limits.{PassesBound, greatest_norm}
 use Rattle.sdmp_laws.proofs.TermsLemmas.{terms_poly}
 use Rattle.canonical_terms.specs.View.{term_of}
 use Rattle.canonical_terms.specs.declared.term.TermOf.{TermOf}
-use Rattle.whole_laws.specs.Wholes.{AllUnderFront}
-use Rattle.whole_laws.specs.Row.{RowNote, RowTerm, RowFront, RowCarry, RowCarryAfter, RowMayFollow, IsUnder, front_after, known_after, row_terms}
-use Rattle.whole_laws.proofs.RowLemmas.{row_laws}
+use Rattle.divide_wholes.specs.Wholes.{AllUnderFront}
+use Rattle.divide_wholes.specs.Row.{RowNote, RowTerm, RowFront, RowCarry, RowCarryAfter, RowMayFollow, IsUnder, front_after, known_after, row_terms}
+use Rattle.divide_wholes.proofs.RowLemmas.{row_laws}
 use Rattle.quotient_row.specs.declared.note.RowNoteOf.{RowNoteOf}
 use Rattle.quotient_row.specs.declared.note.RowNoteOf.TheVariants.{Term, Front}
 use Rattle.quotient_row.specs.Examples.{square_less_one}

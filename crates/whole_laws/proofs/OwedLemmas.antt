@@ -1,0 +1,38 @@
+-- The rule of the notes, and what is owed.
+use Rattle.std.proofs.Common.{◌≡◌, ℕ, List, [], ◌∷◌, ◌++◌, length, drop, Option, sym, ap, ◌∙◌, append_assoc, append-nil}
+use Rattle.std.proofs.lemmas.List.Prefix.{front_rest}
+use Rattle.sdmp_laws.specs.Poly.{Term}
+use Rattle.whole_laws.specs.Notes.{Note, TermNote, MarkNote, EndNote, Script, script_list, terms_in, Carry, owed}
+use Rattle.whole_laws.specs.WholeLaws.{CarryLaws, OwedLaws}
+use Rattle.whole_laws.proofs.NotesLemmas.{terms_in-append, Carry-push, Carry-front, taken_owed}
+
+pub carry_laws : CarryLaws
+carry_laws s = ((λ notes x c m. Carry-push s notes x c m), (λ a b c. Carry-front s a b c), (λ notes c. taken_owed s notes c))
+
+-- ---- what is owed
+owed_term : (s : Script) (notes : List Note) (t : Term) → Carry s (notes ++ TermNote t ∷ []) → owed s notes ≡ t ∷ owed s (notes ++ TermNote t ∷ [])
+unfolding owed terms_in
+owed_term s notes t c =
+    let rest = owed s (notes ++ TermNote t ∷ []) in
+    let e : terms_in (notes ++ TermNote t ∷ []) ≡ terms_in notes ++ t ∷ [] = terms_in-append notes (TermNote t ∷ []) in
+    let whole : script_list s ≡ terms_in notes ++ t ∷ rest = sym (taken_owed s (notes ++ TermNote t ∷ []) c) ∙ ap (λ (L : List Term). L ++ rest) e ∙ append_assoc (terms_in notes) (t ∷ []) rest in
+    front_rest (script_list s) (terms_in notes) (t ∷ rest) whole
+
+owed_terms : (s : Script) (a b : List Note) → terms_in a ≡ terms_in b → owed s a ≡ owed s b
+unfolding owed
+owed_terms s a b e = ap (λ (L : List Term). drop (length L) (script_list s)) e
+
+no_term_mark : (notes : List Note) (k : ℕ) (top : Option (List ℕ)) → terms_in (notes ++ MarkNote k top ∷ []) ≡ terms_in notes
+unfolding terms_in
+no_term_mark notes k top = terms_in-append notes (MarkNote k top ∷ []) ∙ append-nil (terms_in notes)
+
+no_term_end : (notes : List Note) → terms_in (notes ++ EndNote ∷ []) ≡ terms_in notes
+unfolding terms_in
+no_term_end notes = terms_in-append notes (EndNote ∷ []) ∙ append-nil (terms_in notes)
+
+pub owed_laws : OwedLaws
+owed_laws s notes = (
+  (λ t c. owed_term s notes t c),
+  (λ k top. owed_terms s (notes ++ MarkNote k top ∷ []) notes (no_term_mark notes k top)),
+  owed_terms s (notes ++ EndNote ∷ []) notes (no_term_end notes),
+)
