@@ -3,20 +3,24 @@ use Rattle.std.proofs.Common.{◌≡◌, ℕ, List, [], ◌∷◌, ◌++◌, len
 use Rattle.std.proofs.lemmas.List.Prefix.{front_rest}
 use Rattle.sdmp_laws.specs.Poly.{Term}
 use Rattle.whole_laws.specs.Notes.{Note, TermNote, MarkNote, EndNote, Script, script_list, terms_in, Carry, owed}
-use Rattle.whole_laws.specs.WholeLaws.{CarryLaws, OwedLaws}
+use Rattle.whole_laws.specs.WholeLaws.{CarryLaws, OwedLaws, OwedSplit}
 use Rattle.whole_laws.proofs.NotesLemmas.{terms_in-append, Carry-push, Carry-front, taken_owed}
 
 pub carry_laws : CarryLaws
 carry_laws s = ((λ notes x c m. Carry-push s notes x c m), (λ a b c. Carry-front s a b c), (λ notes c. taken_owed s notes c))
 
 -- ---- what is owed
+pub owed_split : OwedSplit
+unfolding owed
+owed_split s taken inside c =
+    let rest = owed s (taken ++ inside) in
+    let whole : script_list s ≡ terms_in taken ++ (terms_in inside ++ rest) =
+    sym (taken_owed s (taken ++ inside) c) ∙ ap (λ (L : List Term). L ++ rest) (terms_in-append taken inside) ∙ append_assoc (terms_in taken) (terms_in inside) rest in
+    front_rest (script_list s) (terms_in taken) (terms_in inside ++ rest) whole
+
 owed_term : (s : Script) (notes : List Note) (t : Term) → Carry s (notes ++ TermNote t ∷ []) → owed s notes ≡ t ∷ owed s (notes ++ TermNote t ∷ [])
-unfolding owed terms_in
-owed_term s notes t c =
-    let rest = owed s (notes ++ TermNote t ∷ []) in
-    let e : terms_in (notes ++ TermNote t ∷ []) ≡ terms_in notes ++ t ∷ [] = terms_in-append notes (TermNote t ∷ []) in
-    let whole : script_list s ≡ terms_in notes ++ t ∷ rest = sym (taken_owed s (notes ++ TermNote t ∷ []) c) ∙ ap (λ (L : List Term). L ++ rest) e ∙ append_assoc (terms_in notes) (t ∷ []) rest in
-    front_rest (script_list s) (terms_in notes) (t ∷ rest) whole
+unfolding terms_in
+owed_term s notes t c = owed_split s notes (TermNote t ∷ []) c
 
 owed_terms : (s : Script) (a b : List Note) → terms_in a ≡ terms_in b → owed s a ≡ owed s b
 unfolding owed
