@@ -1,10 +1,10 @@
 -- Why the coefficient at a candidate of a division is final.
-use Rattle.std.proofs.Common.{◌≡◌, ℕ, suc, ◌%◌, ◌<◌, ◌⊎◌, inl, inr, Bool, true, false, cond, eqb, List, [], ◌∷◌, ◌++◌, length, take, Option, Some, None, ℤ, pos, ◌+ℤ◌, neg_ℤ, refl, sym, ap, ap₂, ◌∙◌, subst, subst₂, arith, true≢false, append_assoc, append-nil}
+use Rattle.std.proofs.Common.{◌≡◌, ℕ, ◌<◌, ◌⊎◌, inl, inr, Bool, true, false, List, [], ◌∷◌, ◌++◌, length, take, Option, Some, None, ℤ, pos, ◌+ℤ◌, neg_ℤ, refl, sym, ap, ap₂, ◌∙◌, subst, subst₂, arith, true≢false, append_assoc, append-nil}
 use Rattle.std.proofs.lemmas.Int.{ints}
 use native.Mathlib.Decide.{ℕ_discrete}
 use Rattle.sdmp_laws.specs.Order.{Order, ◌⋅◌, Divides, over, alike, Below}
 use Rattle.sdmp_laws.specs.Ring.{red}
-use Rattle.sdmp_laws.specs.Poly.{Term, total, coef, Same, term_times, row, times, minus, Over, AllBelow, Decreasing, IsPoly, terms, every, sum_over, is_zero, lm}
+use Rattle.sdmp_laws.specs.Poly.{Term, total, coef, Same, term_times, row, times, minus, Over, AllBelow, Decreasing, IsPoly, terms, sum_over, is_zero, lm}
 use Rattle.sdmp_laws.specs.Division.{Division, IsAccepted, IsExact, NoneDivisible, InScope, AtOrAbove, Turn, Turns, AllAtOrBelow}
 use Rattle.sdmp_laws.specs.LongDivision.{quotient_list}
 use Rattle.whole_laws.specs.Notes.{Note, QuotientScript, after_lead, lead_term, divisor_rows, script_list, terms_in, has, AboveTop, Carry, owed}
@@ -18,12 +18,13 @@ use Rattle.sdmp_laws.proofs.OrderLemmas.{Three, is_less, is_equal, is_greater, b
 use Rattle.sdmp_laws.proofs.Tests.{or_out}
 use Rattle.sdmp_laws.proofs.PolyLemmas.{total_append, total_minus, same_total, from_total, delta, total_weigh, weigh_times_append, times_append_left, red_difference, red_difference_back, Same-trans, Same-append, Same-refl}
 use Rattle.sdmp_laws.proofs.TermsLemmas.{total_nil, total_above, total_other, nothing_below, head_facts, tail_poly, is_zero_yes, is_zero_no, terms_poly, terms_same}
-use Rattle.sdmp_laws.proofs.DivisionLemmas.{AllBelow-append, total_at, row_below, length_lm, in_scope, turns_poly, Turns-after, Turns-push, none_at, divides_times, put_back}
+use Rattle.sdmp_laws.proofs.DivisionLemmas.{AllBelow-append, total_at, row_below, length_lm, in_scope, turns_poly, Turns-after, Turns-push, none_at, divides_times, put_back, divides_scope}
 use Rattle.sdmp_laws.proofs.LongLemmas.{quotient_list_is, prefix_begins, begins_prefix, Over-times, exact_is_list, over_times, length_over, all_in_scope, Over-minus}
 use Rattle.whole_laws.proofs.NotesLemmas.{taken_owed, total_hasnt}
 use Rattle.divide_wholes.proofs.LatestMark.{IsSent, latest_sent}
 use Rattle.sdmp_laws.proofs.NextTerm.{AllBelow-at, at_then_below, at_then_at, AllAtOrBelow-above, below_last, back_poly}
-use Rattle.whole_laws.proofs.Sums.{Over-every, nothing_over}
+use Rattle.whole_laws.proofs.Sums.{nothing_over}
+use Rattle.sdmp_laws.proofs.ListLemmas.{Over-every, AllBelow-every, Decreasing-every, AllBelow-back}
 
 -- ---- products of later quotient terms with the lower terms of the divisor stand below the front
 row_under : (ord : Order) (n : ℕ) (t : Term) (l x : List ℕ) (B : List Term) → length l ≡ n → Over n B → AllBelow ord l B → AtOrAbove ord (t.monomial ⋅ l) x → AllBelow ord x (row t B)
@@ -44,15 +45,6 @@ lower_of : (ord : Order) (p n : ℕ) (g : List Term) → IsPoly ord p n g → Ov
 unfolding after_lead lm Over AllBelow
 lower_of ord p n [] i = (tt, tt)
 lower_of ord p n (t ∷ g) i = (i.vectors.1, (head_facts ord p n t g i).1)
-
-AllBelow-every : (ord : Order) (m : List ℕ) (W w i : ℕ) (A : List Term) → AllBelow ord m A → AllBelow ord m (every W w i A)
-unfolding AllBelow every
-AllBelow-every ord m W w i [] h = tt
-AllBelow-every ord m W w i (t ∷ A) h = pick (AllBelow-every ord m W w (suc i) A h.1) (eqb (i % W) w)
-  where
-    pick : AllBelow ord m (every W w (suc i) A) → (b : Bool) → AllBelow ord m (cond b (t ∷ every W w (suc i) A) (every W w (suc i) A))
-    pick ih true = (h.0, ih)
-    pick ih false = ih
 
 rows_below : (d : Division) (W w : ℕ) → IsAccepted d → AllBelow d.ord (lm d.g) (divisor_rows d.g W w)
 unfolding divisor_rows
@@ -95,11 +87,6 @@ script_poly d W w a =
 script_total : (d : Division) (W w : ℕ) (x : List ℕ) → red d.p (total (script_list (QuotientScript d W w)) x) ≡ red d.p (total (times (quotient_list d) (divisor_rows d.g W w)) x)
 unfolding script_list
 script_total d W w x = same_total d.p (terms d.ord d.p (times (quotient_list d) (divisor_rows d.g W w))) (times (quotient_list d) (divisor_rows d.g W w)) (terms_same d.ord d.p (times (quotient_list d) (divisor_rows d.g W w))) x
-
-AllBelow-back : (ord : Order) (m : List ℕ) (A B : List Term) → AllBelow ord m (A ++ B) → AllBelow ord m B
-unfolding AllBelow
-AllBelow-back ord m [] B h = h
-AllBelow-back ord m (t ∷ A) B h = AllBelow-back ord m A B h.1
 
 -- a list whose front part has a term at x has none there in its back part
 back_nothing : (ord : Order) (p n : ℕ) (A B : List Term) (x : List ℕ) → IsPoly ord p n (A ++ B) → has x A ≡ true → total B x ≡ pos 0
@@ -337,18 +324,13 @@ candidate_above : (s : DivideState) (x m : List ℕ) → IsAccepted s.division �
 unfolding coef
 candidate_above s x m a whole c l k b = from_coef s.division.p (minus s.division.f (times s.q s.division.g)) (minus s.unread (head_terms s.heads)) m (coef_final s x m a whole c l k (inr b)) ∙ zero_above s x m (candidate_bound s x c) b
 
-scope_of_divided : (mode : Mode) (l x : List ℕ) → Divides l x → InScope mode l x
-unfolding InScope
-scope_of_divided Exact l x h = tt
-scope_of_divided Remainder l x h = h
-
 pub candidate_term : CandidateTerm
 candidate_term s x u a whole c v r z e =
     let d = s.division in
     let l = lm d.g in
     let back = over_times x l v in
     let here : coef d.p (minus d.f (times s.q d.g)) (over x l ⋅ l) ≡ coef d.p (minus s.unread (head_terms s.heads)) x =
-    ap (coef d.p (minus d.f (times s.q d.g))) back ∙ coef_final s x x a whole c c.vector (scope_of_divided d.mode l x v) (inl refl) in
+    ap (coef d.p (minus d.f (times s.q d.g))) back ∙ coef_final s x x a whole c c.vector (divides_scope d.mode l x v) (inl refl) in
     let turn : Turn d (minus d.f (times s.q d.g)) (record { monomial = over x l; coefficient = u }) = record {
       vector = length_over x l v ∙ c.vector;
       reduced = r;
@@ -542,15 +524,6 @@ below_at : (ord : Order) (m : List ℕ) (B : List Term) → AllBelow ord m B →
 unfolding AllBelow AllAtOrBelow
 below_at ord m [] h = tt
 below_at ord m (t ∷ B) h = (inr h.0, below_at ord m B h.1)
-
-Decreasing-every : (ord : Order) (W w i : ℕ) (A : List Term) → Decreasing ord A → Decreasing ord (every W w i A)
-unfolding Decreasing every
-Decreasing-every ord W w i [] h = tt
-Decreasing-every ord W w i (t ∷ A) h = pick (Decreasing-every ord W w (suc i) A h.1) (eqb (i % W) w)
-  where
-    pick : Decreasing ord (every W w (suc i) A) → (b : Bool) → Decreasing ord (cond b (t ∷ every W w (suc i) A) (every W w (suc i) A))
-    pick ih true = (AllBelow-every ord t.monomial W w (suc i) A h.0, ih)
-    pick ih false = ih
 
 lower_decreasing : (ord : Order) (g : List Term) → Decreasing ord g → Decreasing ord (after_lead g)
 unfolding Decreasing after_lead

@@ -8,7 +8,7 @@ use Rattle.sdmp_laws.specs.LongDivision.{quotient_list}
 use Rattle.whole_laws.specs.Notes.{Note, TermNote, MarkNote, EndNote, QuotientScript, divisor_rows, terms_in, has, AboveTop, IsMark, MarkMayFollow, MayFollow, CarryAfter, Carry}
 use Rattle.divide_wholes.specs.Wholes.{mark_after, latest_mark}
 use Rattle.sdmp_laws.proofs.TermsLemmas.{total_nil}
-use Rattle.whole_laws.proofs.NotesLemmas.{terms_in-append, has-append_left}
+use Rattle.whole_laws.proofs.NotesLemmas.{terms_in-append, terms_in-mark, terms_in-end, has-append_left}
 
 -- all known products above the top are among the terms A
 unfoldable pub IsSent : Division → ℕ → ℕ → ℕ × Option (List ℕ) → List Term → Type 0
@@ -32,11 +32,11 @@ marks_sent d W w before (TermNote t ∷ notes) mark c h =
 marks_sent d W w before (MarkNote k top ∷ notes) mark c h =
     subst (λ (b : List Note). IsSent d W w (mark_after (k, top) notes) (terms_in b)) (append_assoc before (MarkNote k top ∷ []) notes)
     (marks_sent d W w (before ++ MarkNote k top ∷ []) notes (k, top) c.1
-    (subst (λ (L : List Term). IsSent d W w (k, top) L) (sym (terms_in-append before (MarkNote k top ∷ []) ∙ append-nil (terms_in before))) (sent_from_mark d W w k top before c.0.1)))
+    (subst (λ (L : List Term). IsSent d W w (k, top) L) (sym (terms_in-mark before k top)) (sent_from_mark d W w k top before c.0.1)))
 marks_sent d W w before (EndNote ∷ notes) mark c h =
     subst (λ (b : List Note). IsSent d W w (mark_after mark notes) (terms_in b)) (append_assoc before (EndNote ∷ []) notes)
     (marks_sent d W w (before ++ EndNote ∷ []) notes mark c.1
-    (subst (λ (L : List Term). IsSent d W w mark L) (sym (terms_in-append before (EndNote ∷ []) ∙ append-nil (terms_in before))) h))
+    (subst (λ (L : List Term). IsSent d W w mark L) (sym (terms_in-end before)) h))
 
 nothing_known : (d : Division) (W w : ℕ) → IsSent d W w (0, None) (terms_in [])
 unfolding IsSent times coef

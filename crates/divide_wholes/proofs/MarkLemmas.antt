@@ -1,7 +1,7 @@
 -- The notes that a dividing worker may send, and that it stays whole.
-use Rattle.std.proofs.Common.{◌≡◌, ◌≢◌, ℕ, ◌+◌, ◌≤◌, ◌⊎◌, inl, inr, Bool, true, false, cond, List, [], ◌∷◌, ◌++◌, length, take, Option, Some, None, ℤ, pos, ◌+ℤ◌, neg_ℤ, All, IsPermutation, refl, sym, ap, ◌∙◌, subst, arith, true≢false, length-append, append_assoc, append-nil}
+use Rattle.std.proofs.Common.{◌≡◌, ◌≢◌, ℕ, ◌≤◌, ◌⊎◌, inl, inr, Bool, true, false, cond, List, [], ◌∷◌, ◌++◌, length, take, Option, Some, None, ℤ, pos, ◌+ℤ◌, neg_ℤ, All, refl, sym, ap, ◌∙◌, subst, arith, true≢false, append_assoc, append-nil}
 use Rattle.std.proofs.lemmas.Int.{ints}
-use Rattle.std.proofs.lemmas.List.{map-id, take-append-le, take_all}
+use Rattle.std.proofs.lemmas.List.{take-append-le, take_all}
 use Rattle.std.proofs.lemmas.List.Elements.{All-nil, All-cons, All-head, All-tail, All-append, All-weaker}
 use Rattle.std.proofs.lemmas.List.Sorted.{All-permutation}
 use mathlib.Core.List.{IsPrefix}
@@ -14,14 +14,16 @@ use Rattle.sdmp_laws.proofs.Ints.{red_add, red_neg, red_red, red_zero}
 use Rattle.sdmp_laws.proofs.OrderLemmas.{order_facts, alike_self, alike_same}
 use Rattle.sdmp_laws.proofs.Tests.{or_out, or_in_left, or_in_right}
 use Rattle.sdmp_laws.proofs.PolyLemmas.{total_append, total_minus, same_total, from_total, red_difference, times_append_left}
-use Rattle.sdmp_laws.proofs.Permutations.{total-permutation}
 use Rattle.sdmp_laws.proofs.TermsLemmas.{total_nil, total_other, total_above, total_at_head, AllBelow-up, is_zero_yes, is_zero_no}
 use Rattle.sdmp_laws.proofs.NextTerm.{AllAtOrBelow-above}
 use Rattle.whole_laws.specs.Notes.{Note, TermNote, MarkNote, EndNote, QuotientScript, divisor_rows, script_list, terms_in, has, IsProductMonomial, AboveTop, TopFalls, TopIsProduct, IsMark, NoEnd, MarkMayFollow, EndMayFollow, MayFollow, CarryAfter, Carry}
 use Rattle.divide_wholes.specs.Wholes.{AllUnderFront, mark_after, latest_mark}
 use Rattle.divide_wholes.specs.Workers.{MarkRises, MarkFollows, LatestMark, worker_rows, worker_script, sum_at, IsTop, WorkerStart, WorkerLearn, WorkerHand, WorkerSend, WorkerMark}
-use Rattle.whole_laws.proofs.NotesLemmas.{terms_in-append, Carry-push, has-append_left, total_hasnt}
+use Rattle.whole_laws.proofs.NotesLemmas.{terms_in-append, terms_in-mark, Carry-push, has-append_left, total_hasnt}
 use Rattle.divide_wholes.proofs.WorkerLemmas.{worker_next}
+use Rattle.sdmp_laws.proofs.PlaceLemmas.{length_prefix}
+use Rattle.sdmp_laws.proofs.Permutations.{total_permutation}
+use Rattle.sdmp_laws.proofs.ListLemmas.{All-back}
 
 -- ---- no End
 NoEnd-push : (a : List Note) (x : Note) → NoEnd a → NoEnd (x ∷ []) → NoEnd (a ++ x ∷ [])
@@ -134,16 +136,13 @@ stands p A S m z n =
 take_known : (known L : List Term) → IsPrefix known L → take (length known) L ≡ known
 take_known known L i = ap (take (length known)) (sym i.1) ∙ (take-append-le (length known) known i.0 (omega arith) ∙ take_all (length known) known (omega arith))
 
-prefix_long : (known L : List Term) → IsPrefix known L → length known ≤ length L
-prefix_long known L i = let e : length L ≡ length known + length i.0 = ap length (sym i.1) ∙ length-append known i.0 in omega arith
-
 pub mark_follows : MarkFollows
 unfolding MayFollow MarkMayFollow MarkRises
 mark_follows d W w known top notes i c t z r =
     let G = divisor_rows d.g W w in let k = take_known known (quotient_list d) i in (
       no_end d W w notes c,
       record {
-        known_terms = prefix_long known (quotient_list d) i;
+        known_terms = length_prefix known (quotient_list d) i;
         top_is = subst (λ (A : List Term). TopIsProduct A G top) (sym k) t;
         sent = λ m l a n. stands d.p (times known G) (terms_in notes) m (z m l a) (λ e. n (ap (λ (A : List Term). coef d.p (times A G) m) k ∙ e));
         rises = λ earlier between j old e. rises_more d.ord (j, old) (latest_mark notes) (length known) top (rises_above d W w j old notes earlier between c e) r;
@@ -162,9 +161,6 @@ worker_start d W w = record {
 }
 
 -- ---- what is learned
-total_moved : (m : List ℕ) (A B : List Term) → IsPermutation A B → total B m ≡ total A m
-total_moved m A B h = ap (λ (L : List Term). total L m) (sym (map-id B)) ∙ total-permutation (λ t. t) m A B h ∙ ap (λ (L : List Term). total L m) (map-id A)
-
 has_here : (t : Term) (A : List Term) → has t.monomial (t ∷ A) ≡ true
 unfolding has
 has_here t A = or_in_left (alike t.monomial t.monomial) (has t.monomial A) (alike_self t.monomial)
@@ -210,7 +206,7 @@ worker_learn s t unread whole i h =
       carried = whole.carried;
       sum = from_total s.division.p unread (minus (times (s.known ++ t ∷ []) G) (terms_in s.sent ++ s.kept)) (λ m.
           learned_sum s.division.p s.known s.unread unread (terms_in s.sent ++ s.kept) G t m (same_total s.division.p s.unread (minus (times s.known G) (terms_in s.sent ++ s.kept)) whole.sum m)
-          (total_moved m (s.unread ++ row t G) unread h ∙ total_append s.unread (row t G) m));
+          (total_permutation m (s.unread ++ row t G) unread h ∙ total_append s.unread (row t G) m));
       products = All-permutation P (s.unread ++ row t G) unread h
           (All-append P s.unread (row t G) (All-weaker (λ (u : Term). IsProductMonomial s.known G u.monomial) P (λ u. product_more s.known (t ∷ []) G u.monomial) s.unread whole.products)
           (row_products (s.known ++ t ∷ []) G G t (has_last s.known t) (λ u k. k)));
@@ -221,10 +217,6 @@ worker_learn s t unread whole i h =
 total_elsewhere : (x m : List ℕ) (A : List Term) → All (λ (t : Term). t.monomial ≡ x) A → (x ≡ m → ⊥) → total A m ≡ pos 0
 total_elsewhere x m [] h n = total_nil m
 total_elsewhere x m (t ∷ A) h n = total_other t A m (λ e. n (sym (All-head (λ (u : Term). u.monomial ≡ x) t A h) ∙ e)) ∙ total_elsewhere x m A (All-tail (λ (u : Term). u.monomial ≡ x) t A h) n
-
-all_back : (P : Term → Type 0) (A B : List Term) → All P (A ++ B) → All P B
-all_back P [] B h = h
-all_back P (t ∷ A) B h = all_back P A B (All-tail P t (A ++ B) h)
 
 sum_at_own : (c : ℤ) (x : List ℕ) → total (sum_at c x) x ≡ c
 unfolding sum_at
@@ -289,7 +281,7 @@ worker_hand s x taken unread later front a whole none lx h at below e under lf b
     let P : Term → Type 0 = λ u. IsProductMonomial s.known G u.monomial in
     let bare : S ++ s.kept ≡ S = ap (λ (K : List Term). S ++ K) none ∙ append-nil S in
     let sum : (m : List ℕ) → red d.p (total s.unread m) ≡ red d.p (total (minus F S) m) = λ m. same_total d.p s.unread (minus F (S ++ s.kept)) whole.sum m ∙ ap (λ (L : List Term). red d.p (total (minus F L) m)) bare in
-    let parts : (m : List ℕ) → total s.unread m ≡ total taken m +ℤ total unread m = λ m. sym (total_moved m s.unread (taken ++ unread) h) ∙ total_append taken unread m in
+    let parts : (m : List ℕ) → total s.unread m ≡ total taken m +ℤ total unread m = λ m. sym (total_permutation m s.unread (taken ++ unread) h) ∙ total_append taken unread m in
     let nothing : (m : List ℕ) → Below d.ord x m → total s.unread m ≡ pos 0 = λ m k.
     let t : total taken m ≡ pos 0 = total_elsewhere x m taken at (λ q. (order_facts d.ord).irreflexive m (subst (λ (v : List ℕ). Below d.ord v m) q k)) in
     let v : total unread m ≡ pos 0 = total_above d.ord m unread (AllBelow-up d.ord x m unread k below) in let u = parts m in omega (arith, ints, t, v, u) in
@@ -297,7 +289,7 @@ worker_hand s x taken unread later front a whole none lx h at below e under lf b
       knows = whole.knows;
       carried = whole.carried;
       sum = from_total d.p unread (minus F (S ++ K)) (λ m. handed_sum d.p F S K s.unread taken unread m (sum m) (parts m) (kept_is d.ord d.p x m s.unread taken unread parts at below));
-      products = all_back P taken unread (All-permutation P s.unread (taken ++ unread) h whole.products);
+      products = All-back P taken unread (All-permutation P s.unread (taken ++ unread) h whole.products);
       next = handed_next d s.workers s.worker s.known later S front x (red d.p (total s.unread x)) a e under lf lx b (subst (λ (L : List Term). IsPrefix L (script_list (QuotientScript d s.workers s.worker))) bare whole.next) (sym (sum x))
           (λ m l k. sym (sum m) ∙ ap (red d.p) (nothing m k) ∙ red_zero d.p);
     }
@@ -306,10 +298,6 @@ worker_hand s x taken unread later front a whole none lx h at below e under lf b
 term_sent : (a : List Note) (t : Term) → terms_in (a ++ TermNote t ∷ []) ++ [] ≡ terms_in a ++ t ∷ []
 unfolding terms_in
 term_sent a t = append-nil (terms_in (a ++ TermNote t ∷ [])) ∙ terms_in-append a (TermNote t ∷ [])
-
-mark_sent : (a : List Note) (k : ℕ) (top : Option (List ℕ)) → terms_in (a ++ MarkNote k top ∷ []) ≡ terms_in a
-unfolding terms_in
-mark_sent a k top = terms_in-append a (MarkNote k top ∷ []) ∙ append-nil (terms_in a)
 
 term_may : (d : Division) (W w : ℕ) (a : List Note) (t : Term) → Carry (QuotientScript d W w) a → IsPrefix (terms_in a ++ t ∷ []) (script_list (QuotientScript d W w)) → MayFollow (QuotientScript d W w) a (TermNote t)
 unfolding MayFollow
@@ -357,7 +345,7 @@ worker_mark s top whole none t r =
     let k : ℕ = length s.known in
     let bare : S ++ s.kept ≡ S = ap (λ (K : List Term). S ++ K) none ∙ append-nil S in
     let sum : (m : List ℕ) → red d.p (total s.unread m) ≡ red d.p (total (minus F S) m) = λ m. same_total d.p s.unread (minus F (S ++ s.kept)) whole.sum m ∙ ap (λ (L : List Term). red d.p (total (minus F L) m)) bare in
-    let is : S ++ s.kept ≡ terms_in (s.sent ++ MarkNote k top ∷ []) ++ s.kept = ap (λ (L : List Term). L ++ s.kept) (sym (mark_sent s.sent k top)) in
+    let is : S ++ s.kept ≡ terms_in (s.sent ++ MarkNote k top ∷ []) ++ s.kept = ap (λ (L : List Term). L ++ s.kept) (sym (terms_in-mark s.sent k top)) in
     let may = mark_follows d s.workers s.worker s.known top s.sent whole.knows whole.carried (top_product d.ord s.known G s.unread top t whole.products)
     (λ m l a. sym (sum m) ∙ ap (red d.p) (above_none d.p d.ord d.n s.unread top m t a) ∙ red_zero d.p) r in (
       may,

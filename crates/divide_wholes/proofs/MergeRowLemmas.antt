@@ -2,34 +2,22 @@
 use Rattle.std.proofs.Common.{◌≡◌, ℕ, List, [], ◌∷◌, ◌++◌, length, take, Option, Some, None, refl, sym, ap, ◌∙◌, subst, arith}
 use Rattle.std.proofs.lemmas.List.{take-append-le, take-append-drop, drop_all}
 use mathlib.Core.List.{IsPrefix}
-use Rattle.sdmp_laws.specs.Order.{◌⋅◌, over}
+use Rattle.sdmp_laws.specs.Order.{◌⋅◌, over, IsUnder}
 use Rattle.sdmp_laws.specs.Poly.{Term, lm}
 use Rattle.sdmp_laws.specs.Division.{Division}
 use Rattle.sdmp_laws.specs.LongDivision.{quotient_list}
 use Rattle.sdmp_laws.specs.Limits.{PassesBound}
 use Rattle.whole_laws.specs.Notes.{Note, TermNote, MarkNote, EndNote}
-use Rattle.divide_wholes.specs.Row.{RowNote, RowTerm, RowFront, RowCarryAfter, RowMayFollow, IsUnder, row_terms, known_after, front_after}
+use Rattle.divide_wholes.specs.Row.{RowNote, RowTerm, RowFront, RowCarryAfter, RowMayFollow, row_terms, known_after, front_after}
 use Rattle.divide_wholes.specs.Wholes.{DivideState, DivideWhole, IsPast, AllUnderFront, all_owed, divide_script, divide_start, divide_take, processed, found, kept}
 use Rattle.divide_wholes.specs.MergeRow.{HasRow, RowStart, RowFound, RowFronted, RowKept, RowChanged, with_new_row}
 use Rattle.divide_wholes.proofs.Candidate.{candidate_term, bound_is_front}
-use Rattle.divide_wholes.proofs.RowLemmas.{row_laws}
+use Rattle.divide_wholes.proofs.RowLemmas.{row_laws, row_terms-append, row_terms-front}
 
 -- ---- the notes of a longer list
-terms_more : (a b : List RowNote) → row_terms (a ++ b) ≡ row_terms a ++ row_terms b
-unfolding row_terms
-terms_more [] b = refl
-terms_more (RowTerm t ∷ a) b = ap (λ (L : List Term). t ∷ L) (terms_more a b)
-terms_more (RowFront m ∷ a) b = terms_more a b
-
 term_more : (a : List RowNote) (t : Term) → row_terms (a ++ RowTerm t ∷ []) ≡ row_terms a ++ t ∷ []
 unfolding row_terms
-term_more a t = terms_more a (RowTerm t ∷ [])
-
-front_more : (a : List RowNote) (m : List ℕ) → row_terms (a ++ RowFront m ∷ []) ≡ row_terms a
-unfolding row_terms
-front_more [] m = refl
-front_more (RowTerm t ∷ a) m = ap (λ (L : List Term). t ∷ L) (front_more a m)
-front_more (RowFront k ∷ a) m = front_more a m
+term_more a t = row_terms-append a (RowTerm t ∷ [])
 
 front_of_term : (d : Division) (front : Option (List ℕ)) (a : List RowNote) (t : Term) → front_after d front (a ++ RowTerm t ∷ []) ≡ Some (t.monomial ⋅ lm d.g)
 unfolding front_after
@@ -95,7 +83,7 @@ row_fronted s x notes a whole b u h =
       may,
       record {
         carried = (row_laws s.division s.start a).0 notes (RowFront x) h.carried may;
-        terms = front_more notes x ∙ h.terms;
+        terms = row_terms-front notes x ∙ h.terms;
         front = λ some. front_of_front s.division None notes x;
         begun = λ e. absurd (cc e);
       },

@@ -4,7 +4,7 @@ use Rattle.std.proofs.lemmas.Int.{ints}
 use mathlib.Core.List.{IsSuffix}
 use Rattle.sdmp_laws.specs.Order.{Order, ◌⋅◌, Divides, over, alike, Below}
 use Rattle.sdmp_laws.specs.Ring.{red, IsReduced}
-use Rattle.sdmp_laws.specs.Poly.{Term, total, coef, Same, term_times, row, times, minus, AllBelow, Decreasing, IsPoly, sum_over, lm, lc, Over, Proper, without}
+use Rattle.sdmp_laws.specs.Poly.{Term, total, coef, Same, term_times, row, times, minus, AllBelow, Decreasing, IsPoly, sum_over, lm, lc, without}
 use Rattle.sdmp_laws.specs.Division.{Division, IsAccepted, NoneDivisible, AtOrAbove, AllAtOrBelow}
 use Rattle.sdmp_laws.specs.LongDivision.{quotient_list}
 use Rattle.whole_laws.specs.Notes.{QuotientScript, after_lead, lead_term, terms_in, has, owed}
@@ -16,7 +16,7 @@ use Rattle.sdmp_laws.specs.declared.Mode.TheVariants.{Remainder}
 use Rattle.sdmp_laws.proofs.Ints.{red_add, red_red, red_zero, add_zero, zero_add}
 use Rattle.sdmp_laws.proofs.OrderLemmas.{Three, is_less, is_equal, is_greater, below_total, order_facts, alike_same, alike_self, alike_not}
 use Rattle.sdmp_laws.proofs.PolyLemmas.{total_append, total_minus, same_total, from_total, total_without, red_difference_back}
-use Rattle.sdmp_laws.proofs.TermsLemmas.{below_cons, nothing_below, total_nil, total_one, AllBelow-up, head_facts, coef_head}
+use Rattle.sdmp_laws.proofs.TermsLemmas.{below_cons, nothing_below, total_nil, total_one, AllBelow-up, head_facts, coef_head, total_zero}
 use Rattle.divide_wholes.proofs.Candidate.{candidate_term, settled_owes_nothing, settled_up, under_up, script_poly, later_poly, later_under, candidate_bound, under_rest}
 use Rattle.sdmp_laws.proofs.NextTerm.{back_poly}
 use Rattle.whole_laws.proofs.NotesLemmas.{taken_owed}
@@ -24,6 +24,7 @@ use Rattle.sdmp_laws.proofs.DivisionLemmas.{AllBelow-append}
 use Rattle.sdmp_laws.proofs.LongLemmas.{over_times}
 use Rattle.sdmp_laws.proofs.Tests.{or_out}
 use Rattle.whole_laws.proofs.StepLemmas.{cleared, length_clear, head_clear, no_head}
+use Rattle.sdmp_laws.proofs.Merging.{Proper-push, Over-push}
 
 -- ---- lists without their terms at x
 -- below x nothing goes
@@ -132,7 +133,7 @@ owed_below s x w a whole c h =
     zero_below d.ord d.p d.n x (owed (QuotientScript d s.workers w) notes) c.vector i
     (λ y l k. settled_owes_nothing s y w later.0 a whole later.1 l (under_up d x y later.0 k (later_under s x later.0 a whole (candidate_bound s x c) later.1)) h (settled_up s x y w k (c.settled w h)))
 
-below_over : (ord : Order) (x : List ℕ) (F : ℕ → List Term) (k : ℕ) → ((w : ℕ) → w < k → AllBelow ord x (F w)) → AllBelow ord x (sum_over k F)
+pub below_over : (ord : Order) (x : List ℕ) (F : ℕ → List Term) (k : ℕ) → ((w : ℕ) → w < k → AllBelow ord x (F w)) → AllBelow ord x (sum_over k F)
 unfolding sum_over
 below_over ord x F zero h = nothing_below ord x
 below_over ord x F (suc k) h = AllBelow-append ord x (sum_over k F) (F k) (below_over ord x F k (λ w l. h w (omega arith))) (h k (omega arith))
@@ -232,13 +233,6 @@ read_reduced s x c p m e = ap (red p) (total_one (record { monomial = x; coeffic
     pick true = e
     pick false = refl
 
-zero_term : (x m : List ℕ) → total (record { monomial = x; coefficient = pos 0 } ∷ []) m ≡ pos 0
-zero_term x m = total_one (record { monomial = x; coefficient = pos 0 }) m ∙ pick (alike x m)
-  where
-    pick : (b : Bool) → cond b (pos 0) (pos 0) ≡ pos 0
-    pick true = refl
-    pick false = refl
-
 -- ---- a zero
 pub divide_zero : DivideZero
 unfolding processed coef IsPast all_owed divide_script head_of_worker clear_at
@@ -250,7 +244,7 @@ divide_zero s x a whole c h z =
       carried = whole.carried;
       heads_are = cleared_heads s x whole;
       sum = sum_after s x (times s.q (lead_term s.division.g)) s.r [] (all_owed s) (minus s.division.f (times (quotient_list s.division) (after_lead s.division.g))) s.division.p
-          (λ m. read_reduced s x (pos 0) s.division.p m (z ∙ sym (red_zero s.division.p)) ∙ ap (red s.division.p) (zero_term x m ∙ sym (total_nil m)))
+          (λ m. read_reduced s x (pos 0) s.division.p m (z ∙ sym (red_zero s.division.p)) ∙ ap (red s.division.p) (total_zero (record { monomial = x; coefficient = pos 0 }) m refl ∙ sym (total_nil m)))
           (λ m. sym (add_zero (total (times s.q (lead_term s.division.g) ++ s.r) m)) ∙ ap (λ (y : ℤ). total (times s.q (lead_term s.division.g) ++ s.r) m +ℤ y) (sym (total_nil m)))
           whole.sum;
       quotient = whole.quotient;
@@ -273,16 +267,6 @@ NoneDivisible-push : (l : List ℕ) (A : List Term) (t : Term) → NoneDivisible
 unfolding NoneDivisible
 NoneDivisible-push l [] t h k = (k, tt)
 NoneDivisible-push l (s ∷ A) t h k = (h.0, NoneDivisible-push l A t h.1 k)
-
-Proper-push : (p : ℕ) (A : List Term) (t : Term) → Proper p A → IsReduced p t.coefficient → (t.coefficient ≢ pos 0) → Proper p (A ++ t ∷ [])
-unfolding Proper
-Proper-push p [] t h r z = (r, z, tt)
-Proper-push p (s ∷ A) t h r z = (h.0, h.1, Proper-push p A t h.2 r z)
-
-Over-push : (n : ℕ) (A : List Term) (t : Term) → Over n A → length t.monomial ≡ n → Over n (A ++ t ∷ [])
-unfolding Over
-Over-push n [] t h l = (l, tt)
-Over-push n (s ∷ A) t h l = (h.0, Over-push n A t h.1 l)
 
 -- a canonical list with a lower term after it
 IsPoly-push : (ord : Order) (p n : ℕ) (A : List Term) (t : Term) → IsPoly ord p n A → AllAbove ord t.monomial A → length t.monomial ≡ n → IsReduced p t.coefficient → (t.coefficient ≢ pos 0) → IsPoly ord p n (A ++ t ∷ [])

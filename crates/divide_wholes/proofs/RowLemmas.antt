@@ -16,7 +16,7 @@ row_push d start before [] x c m = (subst (λ (b : List RowNote). RowMayFollow d
 row_push d start before (y ∷ notes) x c m =
     (c.0, row_push d start (before ++ y ∷ []) notes x c.1 (subst (λ (b : List RowNote). RowMayFollow d start b x) (sym (append_assoc before (y ∷ []) notes)) m))
 
-row_front : (d : Division) (start : ℕ) (before a b : List RowNote) → RowCarryAfter d start before (a ++ b) → RowCarryAfter d start before a
+pub row_front : (d : Division) (start : ℕ) (before a b : List RowNote) → RowCarryAfter d start before (a ++ b) → RowCarryAfter d start before a
 unfolding RowCarryAfter
 row_front d start before [] b c = tt
 row_front d start before (x ∷ a) b c = (c.0, row_front d start (before ++ x ∷ []) a b c.1)
@@ -25,11 +25,15 @@ row_front d start before (x ∷ a) b c = (c.0, row_front d start (before ++ x �
 UnderFront : Division → ℕ → List RowNote → Option (List ℕ) → Type 0
 UnderFront d start notes front = (later : List Term) → known_after d start notes ++ later ≡ quotient_list d → AllUnderFront d front later
 
-row_terms-append : (a b : List RowNote) → row_terms (a ++ b) ≡ row_terms a ++ row_terms b
+pub row_terms-append : (a b : List RowNote) → row_terms (a ++ b) ≡ row_terms a ++ row_terms b
 unfolding row_terms
 row_terms-append [] b = refl
 row_terms-append (RowTerm t ∷ a) b = ap (λ (L : List Term). t ∷ L) (row_terms-append a b)
 row_terms-append (RowFront m ∷ a) b = row_terms-append a b
+
+pub row_terms-front : (a : List RowNote) (m : List ℕ) → row_terms (a ++ RowFront m ∷ []) ≡ row_terms a
+unfolding row_terms
+row_terms-front a m = row_terms-append a (RowFront m ∷ []) ∙ append-nil (row_terms a)
 
 known_term : (d : Division) (start : ℕ) (before : List RowNote) (t : Term) → known_after d start (before ++ RowTerm t ∷ []) ≡ known_after d start before ++ t ∷ []
 unfolding known_after row_terms
@@ -39,7 +43,7 @@ known_term d start before t =
 
 known_front : (d : Division) (start : ℕ) (before : List RowNote) (m : List ℕ) → known_after d start (before ++ RowFront m ∷ []) ≡ known_after d start before
 unfolding known_after row_terms
-known_front d start before m = ap (λ (L : List Term). take start (quotient_list d) ++ L) (row_terms-append before (RowFront m ∷ []) ∙ append-nil (row_terms before))
+known_front d start before m = ap (λ (L : List Term). take start (quotient_list d) ++ L) (row_terms-front before m)
 
 under_open : (d : Division) (x : List ℕ) (t : Term) (A : List Term) → AllUnderFront d (Some x) (t ∷ A) → AllUnderFront d (Some x) A
 unfolding AllUnderFront

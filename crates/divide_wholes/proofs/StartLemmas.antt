@@ -16,8 +16,10 @@ use Rattle.sdmp_laws.proofs.TermsLemmas.{total_nil, terms_same, nil_poly}
 use Rattle.sdmp_laws.proofs.Parts.{weigh_first, all_counted}
 use Rattle.whole_laws.specs.Wholes.{head_terms, IsHead, notes_of, head_of_worker}
 use Rattle.divide_wholes.specs.Wholes.{divide_script, all_owed, IsPast, AllUnderFront, RemainderFits, divide_start}
-use Rattle.whole_laws.proofs.StartLemmas.{get_or-replicate, length_replicate, no_heads, nothing_carried, head_none, all_of_it}
+use Rattle.whole_laws.proofs.StartLemmas.{get_or-replicate, no_heads, nothing_carried, all_of_it}
 use Rattle.whole_laws.proofs.Sums.{sum_over_same}
+use Rattle.std.proofs.lemmas.List.{length-replicate}
+use Rattle.whole_laws.proofs.StepLemmas.{no_head}
 
 -- the rows of the workers make up the lower terms of the divisor
 weigh_rows : (F : List ℕ → ℤ) (A B : List Term) (W k : ℕ) → weigh F (sum_over k (λ w. times A (every W w 1 B))) ≡ weigh_first (λ u. weigh (λ v. F (u ⋅ v)) A) W k 1 B
@@ -63,10 +65,10 @@ no_front d A = tt
 pub divide_start_law : DivideStart
 unfolding divide_start divide_script notes_of head_of_worker all_owed IsPast
 divide_start_law d W h within = record {
-  heads_count = length_replicate None W;
-  taken_count = length_replicate [] W;
+  heads_count = length-replicate W None;
+  taken_count = length-replicate W [];
   carried = λ w l. subst (λ (n : List Note). Carry (QuotientScript d W w) n) (sym (get_or-replicate [] W w)) (nothing_carried (QuotientScript d W w));
-  heads_are = λ w l. subst (λ (o : Option Term). IsHead o (get_or (replicate W []) w [])) (sym (get_or-replicate None W w)) (head_none (get_or (replicate W []) w []));
+  heads_are = λ w l. subst (λ (o : Option Term). IsHead o (get_or (replicate W []) w [])) (sym (get_or-replicate None W w)) (no_head (get_or (replicate W []) w []));
   sum =
       start_sum d (head_terms (replicate W None)) (sum_over W (λ w. owed (QuotientScript d W w) (get_or (replicate W []) w []))) (no_heads W)
       (Same-trans d.p (sum_over W (λ w. owed (QuotientScript d W w) (get_or (replicate W []) w []))) (sum_over W (λ w. times (quotient_list d) (every W w 1 (after_lead d.g)))) (times (quotient_list d) (after_lead d.g))

@@ -11,12 +11,13 @@ use Rattle.divide_wholes.specs.Wholes.{DivideState, DivideWhole, divide_script, 
 use Rattle.divide_wholes.specs.DivideLaws.{DivideFront, DivideTake}
 use Rattle.sdmp_laws.proofs.OrderLemmas.{Three, is_less, is_equal, is_greater, numbers}
 use Rattle.sdmp_laws.proofs.PolyLemmas.{total_append, total_minus, same_total, from_total}
-use Rattle.sdmp_laws.proofs.TermsLemmas.{total_cons, nothing_below}
-use Rattle.sdmp_laws.proofs.DivisionLemmas.{AllBelow-append}
+use Rattle.sdmp_laws.proofs.TermsLemmas.{total_cons}
 use Rattle.divide_wholes.proofs.Candidate.{bound_is_front}
 use Rattle.whole_laws.proofs.OwedLemmas.{owed_laws}
 use Rattle.whole_laws.proofs.Sums.{sum_changed}
 use Rattle.whole_laws.proofs.StepLemmas.{head_set, notes_same, notes_other, head_same, head_other, last_head, each_worker, no_head}
+use Rattle.sdmp_laws.proofs.ListLemmas.{AllBelow-front, AllBelow-back}
+use Rattle.divide_wholes.proofs.ProcessLemmas.{below_over}
 
 past_front : (s : DivideState) (x : List ℕ) (last : Option (List ℕ)) → IsPast s last → IsPast (record s { front = Some x }) last
 unfolding IsPast all_owed divide_script
@@ -63,16 +64,6 @@ owed_changed s w n x whole h =
     (λ v k. ap (λ (y : List Note). total (owed (divide_script s v) y) x) (notes_other s.taken w v n k))
     ∙ ap (λ (y : List Note). total (sum_over s.workers (λ v. owed (divide_script s v) (get_or s.taken v []))) x +ℤ total (owed (divide_script s w) y) x) (notes_same s.taken w n (in_range s w whole h))
 
-front_below : (ord : Order) (m : List ℕ) (A B : List Term) → AllBelow ord m (A ++ B) → AllBelow ord m A
-unfolding AllBelow
-front_below ord m [] B h = tt
-front_below ord m (t ∷ A) B h = (h.0, front_below ord m A B h.1)
-
-back_below : (ord : Order) (m : List ℕ) (A B : List Term) → AllBelow ord m (A ++ B) → AllBelow ord m B
-unfolding AllBelow
-back_below ord m [] B h = h
-back_below ord m (t ∷ A) B h = back_below ord m A B h.1
-
 rest_below : (ord : Order) (m : List ℕ) (t : Term) (A : List Term) → AllBelow ord m (t ∷ A) → AllBelow ord m A
 unfolding AllBelow
 rest_below ord m t A h = h.1
@@ -85,22 +76,17 @@ first_is_below ord m t A h = h.0
 parts_below : (ord : Order) (m : List ℕ) (F : ℕ → List Term) (k : ℕ) → AllBelow ord m (sum_over k F) → (v : ℕ) → v < k → AllBelow ord m (F v)
 unfolding sum_over
 parts_below ord m F zero h v l = absurd (omega arith)
-parts_below ord m F (suc k) h v l = pick (λ l'. parts_below ord m F k (front_below ord m (sum_over k F) (F k) h) v l') (numbers v k)
+parts_below ord m F (suc k) h v l = pick (λ l'. parts_below ord m F k (AllBelow-front ord m (sum_over k F) (F k) h) v l') (numbers v k)
   where
     pick : (v < k → AllBelow ord m (F v)) → Three (v < k) (v ≡ k) (k < v) → AllBelow ord m (F v)
     pick ih (is_less b) = ih b
-    pick ih (is_equal e) = subst (λ (y : ℕ). AllBelow ord m (F y)) (sym e) (back_below ord m (sum_over k F) (F k) h)
+    pick ih (is_equal e) = subst (λ (y : ℕ). AllBelow ord m (F y)) (sym e) (AllBelow-back ord m (sum_over k F) (F k) h)
     pick ih (is_greater b) = absurd (omega arith)
-
-whole_below : (ord : Order) (m : List ℕ) (F : ℕ → List Term) (k : ℕ) → ((v : ℕ) → v < k → AllBelow ord m (F v)) → AllBelow ord m (sum_over k F)
-unfolding sum_over
-whole_below ord m F zero h = nothing_below ord m
-whole_below ord m F (suc k) h = AllBelow-append ord m (sum_over k F) (F k) (whole_below ord m F k (λ v l. h v (omega arith))) (h k (omega arith))
 
 owed_still_below : (s : DivideState) (w : ℕ) (n : List Note) (m : List ℕ) → DivideWhole s → w < s.workers → AllBelow s.division.ord m (owed (divide_script s w) n) →
     AllBelow s.division.ord m (sum_over s.workers (λ v. owed (divide_script s v) (get_or s.taken v []))) → AllBelow s.division.ord m (sum_over s.workers (λ v. owed (divide_script s v) (get_or (set s.taken w n) v [])))
 owed_still_below s w n m whole h new old =
-    whole_below s.division.ord m (λ v. owed (divide_script s v) (get_or (set s.taken w n) v [])) s.workers (λ v l.
+    below_over s.division.ord m (λ v. owed (divide_script s v) (get_or (set s.taken w n) v [])) s.workers (λ v l.
     each_worker (λ v. AllBelow s.division.ord m (owed (divide_script s v) (get_or (set s.taken w n) v []))) w v
     (subst (λ (y : List Note). AllBelow s.division.ord m (owed (divide_script s w) y)) (sym (notes_same s.taken w n (in_range s w whole h))) new)
     (λ k. subst (λ (y : List Note). AllBelow s.division.ord m (owed (divide_script s v) y)) (sym (notes_other s.taken w v n k)) (parts_below s.division.ord m (λ v. owed (divide_script s v) (get_or s.taken v [])) s.workers old v l)))

@@ -1,12 +1,12 @@
 -- How the row of a division's merge says what the merge found.
 use Rattle.std.specs.Prelude.{◌≡◌, ◌≢◌, ℕ, List, [], ◌∷◌, ◌++◌, length, Some, None, ℤ, pos, ◌*ℤ◌}
-use Rattle.sdmp_laws.specs.Order.{Divides, over}
+use Rattle.sdmp_laws.specs.Order.{Divides, over, IsUnder}
 use Rattle.sdmp_laws.specs.Ring.{red, IsReduced}
 use Rattle.sdmp_laws.specs.Poly.{coef, minus, lm, lc}
 use Rattle.sdmp_laws.specs.Division.{Division, IsAccepted}
 use Rattle.sdmp_laws.specs.Limits.{PassesBound}
 use Rattle.whole_laws.specs.Notes.{Note}
-use Rattle.divide_wholes.specs.Row.{RowNote, RowTerm, RowFront, RowCarry, RowMayFollow, IsUnder, row_terms, front_after}
+use Rattle.divide_wholes.specs.Row.{RowNote, RowTerm, RowFront, RowCarry, RowMayFollow, row_terms, front_after}
 use Rattle.whole_laws.specs.Wholes.{head_terms}
 use Rattle.divide_wholes.specs.Wholes.{DivideState, DivideWhole, IsCandidate, IsBound, divide_start, divide_take, processed, found, kept}
 

@@ -1,7 +1,7 @@
 -- The notes of the published row, and the rule that they keep.
 use Rattle.std.specs.Prelude.{◌≡◌, ℕ, List, [], ◌∷◌, ◌++◌, length, take, Option, Some, None}
 use mathlib.Core.List.{IsPrefix}
-use Rattle.sdmp_laws.specs.Order.{Order, ◌⋅◌, Below}
+use Rattle.sdmp_laws.specs.Order.{◌⋅◌, IsUnder}
 use Rattle.sdmp_laws.specs.Poly.{Term, lm}
 use Rattle.sdmp_laws.specs.Division.{Division}
 use Rattle.sdmp_laws.specs.LongDivision.{quotient_list}
@@ -28,11 +28,6 @@ front_after d front (RowFront m ∷ notes) = front_after d (Some m) notes
 -- the quotient terms known after the notes of a row that starts at `start`
 unfoldable pub known_after : Division → ℕ → List RowNote → List Term
 known_after d start notes = take start (quotient_list d) ++ row_terms notes
-
--- m is below the front; every monomial is where there is none
-unfoldable pub IsUnder : Order → Option (List ℕ) → List ℕ → Type 0
-IsUnder ord None m = Unit {0}
-IsUnder ord (Some front) m = Below ord m front
 
 -- the note x may be published after the notes `before`
 unfoldable pub RowMayFollow : Division → ℕ → List RowNote → RowNote → Type 0

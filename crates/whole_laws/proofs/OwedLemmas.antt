@@ -1,10 +1,10 @@
 -- The rule of the notes, and what is owed.
-use Rattle.std.proofs.Common.{◌≡◌, ℕ, List, [], ◌∷◌, ◌++◌, length, drop, Option, sym, ap, ◌∙◌, append_assoc, append-nil}
+use Rattle.std.proofs.Common.{◌≡◌, List, [], ◌∷◌, ◌++◌, length, drop, sym, ap, ◌∙◌, append_assoc}
 use Rattle.std.proofs.lemmas.List.Prefix.{front_rest}
 use Rattle.sdmp_laws.specs.Poly.{Term}
 use Rattle.whole_laws.specs.Notes.{Note, TermNote, MarkNote, EndNote, Script, script_list, terms_in, Carry, owed}
 use Rattle.whole_laws.specs.WholeLaws.{CarryLaws, OwedLaws, OwedSplit}
-use Rattle.whole_laws.proofs.NotesLemmas.{terms_in-append, Carry-push, Carry-front, taken_owed}
+use Rattle.whole_laws.proofs.NotesLemmas.{terms_in-append, terms_in-mark, terms_in-end, Carry-push, Carry-front, taken_owed}
 
 pub carry_laws : CarryLaws
 carry_laws s = ((λ notes x c m. Carry-push s notes x c m), (λ a b c. Carry-front s a b c), (λ notes c. taken_owed s notes c))
@@ -26,17 +26,9 @@ owed_terms : (s : Script) (a b : List Note) → terms_in a ≡ terms_in b → ow
 unfolding owed
 owed_terms s a b e = ap (λ (L : List Term). drop (length L) (script_list s)) e
 
-no_term_mark : (notes : List Note) (k : ℕ) (top : Option (List ℕ)) → terms_in (notes ++ MarkNote k top ∷ []) ≡ terms_in notes
-unfolding terms_in
-no_term_mark notes k top = terms_in-append notes (MarkNote k top ∷ []) ∙ append-nil (terms_in notes)
-
-no_term_end : (notes : List Note) → terms_in (notes ++ EndNote ∷ []) ≡ terms_in notes
-unfolding terms_in
-no_term_end notes = terms_in-append notes (EndNote ∷ []) ∙ append-nil (terms_in notes)
-
 pub owed_laws : OwedLaws
 owed_laws s notes = (
   (λ t c. owed_term s notes t c),
-  (λ k top. owed_terms s (notes ++ MarkNote k top ∷ []) notes (no_term_mark notes k top)),
-  owed_terms s (notes ++ EndNote ∷ []) notes (no_term_end notes),
+  (λ k top. owed_terms s (notes ++ MarkNote k top ∷ []) notes (terms_in-mark notes k top)),
+  owed_terms s (notes ++ EndNote ∷ []) notes (terms_in-end notes),
 )

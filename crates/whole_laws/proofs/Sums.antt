@@ -1,21 +1,12 @@
 -- Sums over the workers.
-use Rattle.std.proofs.Common.{◌≡◌, ℕ, zero, suc, ◌%◌, ◌<◌, Bool, true, false, cond, eqb, List, [], ◌∷◌, ◌++◌, pos, ◌+ℤ◌, refl, sym, ap, ap₂, ◌∙◌, arith}
+use Rattle.std.proofs.Common.{◌≡◌, ℕ, zero, suc, ◌<◌, List, [], ◌++◌, pos, ◌+ℤ◌, refl, sym, ap, ap₂, ◌∙◌, arith}
 use Rattle.std.proofs.lemmas.Int.{ints}
 use Rattle.sdmp_laws.specs.Ring.{red}
-use Rattle.sdmp_laws.specs.Poly.{Term, total, Same, Over, every, sum_over}
+use Rattle.sdmp_laws.specs.Poly.{Term, total, Same, sum_over}
 use Rattle.sdmp_laws.proofs.Ints.{red_add, red_zero}
 use Rattle.sdmp_laws.proofs.OrderLemmas.{Three, is_less, is_equal, is_greater, numbers}
 use Rattle.sdmp_laws.proofs.PolyLemmas.{total_append, same_total, from_total, Same-refl}
 use Rattle.sdmp_laws.proofs.TermsLemmas.{total_nil}
-
-pub Over-every : (n W w i : ℕ) (A : List Term) → Over n A → Over n (every W w i A)
-unfolding Over every
-Over-every n W w i [] h = tt
-Over-every n W w i (t ∷ A) h = pick (Over-every n W w (suc i) A h.1) (eqb (i % W) w)
-  where
-    pick : Over n (every W w (suc i) A) → (b : Bool) → Over n (cond b (t ∷ every W w (suc i) A) (every W w (suc i) A))
-    pick ih true = (h.0, ih)
-    pick ih false = ih
 
 -- ---- a sum in which each part counts for nothing
 pub nothing_over : (p : ℕ) (x : List ℕ) (F : ℕ → List Term) (k : ℕ) → ((w : ℕ) → w < k → red p (total (F w) x) ≡ pos 0) → red p (total (sum_over k F) x) ≡ pos 0
