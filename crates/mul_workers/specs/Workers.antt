@@ -4,10 +4,10 @@ use Rattle.whole_laws.specs.Notes.{NoEnd}
 use Rattle.turnstile.specs.Passes.{IsPassOf, IsOutside, entries, busy}
 use Rattle.turnstile.specs.declared.turn.Pass.{Pass}
 use Rattle.turnstile.specs.declared.turn.Turnstile.{Turnstile}
-use Rattle.global_heap.specs.Names.{RingName}
+use Rattle.term_ring.specs.Names.{RingName}
 use Rattle.global_heap.specs.Merges.{MergeView}
 use Rattle.global_heap.specs.declared.receipt.Advanced.{Advanced}
-use Rattle.mul_workers.specs.Senders.{SenderView, IsSentWhole, IsRefused, WasRefused}
+use Rattle.term_ring.specs.Sending.{SenderView, IsSentWhole, IsRefused, WasRefused}
 use Rattle.mul_workers.specs.declared.stop.Stop.{Stop}
 use Rattle.mul_workers.specs.declared.stop.Stop.TheVariants.{Ended, Full}
 

@@ -1,11 +1,10 @@
 //! A round: the workers advance beside each other, and then the merge.
 ghost use Rattle.std.specs.Prelude.{◌≡◌, ◌+◌, ◌<◌, ◌≤◌, ℕ, All, map, length, slice_index_or, vec_len, vec_capacity, IfOk};
 ghost use Rattle.turnstile.specs.Passes.{made_with, passes_out, IsPassOf, IsOutside};
-ghost use Rattle.global_heap.specs.Names.{RingName, NoneBelow, notes_count};
-ghost use Rattle.global_heap.specs.Readers.{ring_name};
+ghost use Rattle.term_ring.specs.Names.{RingName, NoneBelow, notes_count, ring_name};
 ghost use Rattle.global_heap.specs.Merges.{IsSound};
 ghost use Rattle.global_heap.specs.Reached.{merge_reached};
-ghost use Rattle.mul_workers.specs.Senders.{SenderView, IsAmong};
+ghost use Rattle.term_ring.specs.Sending.{SenderView, IsAmong};
 ghost use Rattle.mul_workers.specs.Workers.{HasPass};
 ghost use Rattle.mul_workers.specs.Rounds.{AreMembers, IsTeam, Moves, AllMove, AllMeet, HaveMet, IsSettledBy, IsRound};
 

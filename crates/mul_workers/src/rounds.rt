@@ -3,7 +3,7 @@ ghost use Rattle.std.specs.Prelude.{◌≡◌, ◌+◌, ◌≤◌, map, length, 
 ghost use Rattle.whole_laws.specs.Wholes.{IsMergeDone};
 ghost use Rattle.global_heap.specs.Names.{first_product, notes_total};
 ghost use Rattle.global_heap.specs.Merges.{IsSound};
-ghost use Rattle.global_heap.specs.Readers.{ring_name};
+ghost use Rattle.term_ring.specs.Names.{ring_name};
 ghost use Rattle.mul_workers.specs.Rounds.{IsTeam};
 
 use crate::round::round;

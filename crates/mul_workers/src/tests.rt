@@ -3,8 +3,8 @@ ghost use Rattle.sdmp_laws.specs.Limits.{greatest_norm, HasRoom};
 ghost use Rattle.whole_laws.specs.Notes.{ProductScript};
 ghost use Rattle.term_ring.specs.Ends.{IsReaderOf, script_in, taken};
 ghost use Rattle.turnstile.specs.Passes.{made_with, passes_out};
-ghost use Rattle.global_heap.specs.Readers.{ring_name};
-ghost use Rattle.mul_workers.specs.Senders.{IsAmong};
+ghost use Rattle.term_ring.specs.Names.{ring_name};
+ghost use Rattle.term_ring.specs.Sending.{IsAmong};
 ghost use Rattle.mul_workers.specs.Workers.{HasPass};
 ghost use Rattle.mul_workers.specs.Products.{product_of};
 

@@ -3,10 +3,8 @@ ghost use Rattle.std.specs.Prelude.{◌≡◌, ◌≤◌, ℕ, map, [], Some};
 ghost use Rattle.whole_laws.specs.Notes.{Carry, script_list};
 ghost use Rattle.turnstile.specs.Passes.{made_with, IsPassOf, IsOutside, entries, busy};
 ghost use Rattle.term_ring.specs.Ends.{sent, head_seen, head_loads};
-ghost use Rattle.global_heap.specs.Names.{NoneBelow};
-ghost use Rattle.global_heap.specs.Readers.{ring_name};
-ghost use Rattle.mul_workers.specs.Writers.{writer_name, IsWriting};
-ghost use Rattle.mul_workers.specs.Senders.{Sends, IsAmong, HasMet};
+ghost use Rattle.term_ring.specs.Names.{NoneBelow, ring_name, writer_name, IsWriting};
+ghost use Rattle.term_ring.specs.Sending.{Sends, IsAmong, HasMet};
 ghost use Rattle.mul_workers.specs.Inside.{script_of_rows};
 ghost use Rattle.mul_workers.specs.Workers.{HasPass, IsReceipt, IsStop};
 
@@ -118,7 +116,7 @@ impl<'a, R: CoeffRing, M: Monomial> MulWorker<'a, R, M> {
         ensures rings { merge.new.rings ≡ merge.old.rings }
         ensures spare { merge.new.spare ≡ merge.old.spare }
         ensures tails { NoneBelow merge.old.tails merge.new.tails }
-        ensures met { HasMet merge.new self.new.sender }
+        ensures met { HasMet merge.new.state.taken merge.new.tails self.new.sender }
     {
         merge.whole();
         let worker = self.sender.worker();

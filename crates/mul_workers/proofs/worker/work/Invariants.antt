@@ -1,7 +1,7 @@
 use Rattle.std.proofs.Common.{◌+◌, ◌-◌, ◌≤◌, length}
 use Rattle.whole_laws.specs.Notes.{script_list}
 use Rattle.turnstile.specs.Passes.{IsPassOf, IsOutside, entries, busy}
-use Rattle.mul_workers.specs.Senders.{Sends, ArePushed}
+use Rattle.term_ring.specs.Sending.{Sends, ArePushed}
 use Rattle.mul_workers.proofs.worker.work.Given as goal
 
 abbrev pub invariant-loop-pass : goal.invariant-loop-pass

@@ -8,9 +8,8 @@ use Rattle.term_ring.specs.Ends.{sent, head_seen, head_loads}
 use Rattle.term_ring.specs.declared.ring.Writer.{Writer}
 use Rattle.term_ring.specs.declared.note.NoteOf.{NoteOf}
 use Rattle.term_ring.specs.declared.note.NoteOf.TheVariants as note
-use Rattle.global_heap.specs.Names.{RingName}
-use Rattle.global_heap.specs.Merges.{MergeView, taken_of}
-use Rattle.mul_workers.specs.Writers.{writer_name}
+use Rattle.term_ring.specs.Names.{RingName, writer_name}
+use Rattle.whole_laws.specs.Wholes.{notes_of as notes_at}
 
 -- the ring of its writer, its number, the notes that it sent, the head that the writer saw last, and how often it loaded the head
 pub record SenderView : Type 0 where
@@ -55,11 +54,11 @@ pub record IsAmong (names : List RingName) (s : SenderView) : Type 0 where
   pub number : s.worker < length names
   pub ring : (d : RingName) → slice_index_or names s.worker d ≡ s.ring
 
--- its writer and the merge's reader of its ring have met, and the merge has taken nothing since
-pub record HasMet (m : MergeView) (s : SenderView) : Type 0 where
-  pub taken : IsPrefix (taken_of m s.worker) s.sent
-  pub writer_seen : length (taken_of m s.worker) ≤ s.head
-  pub reader_seen : length s.sent ≤ slice_index_or m.tails s.worker 0
+-- its writer and the reader of its ring have met, and nothing was taken since; all readers have taken these notes and seen these tails
+pub record HasMet (all_taken : List (List Note)) (tails : List ℕ) (s : SenderView) : Type 0 where
+  pub taken : IsPrefix (notes_at all_taken s.worker) s.sent
+  pub writer_seen : length (notes_at all_taken s.worker) ≤ s.head
+  pub reader_seen : length s.sent ≤ slice_index_or tails s.worker 0
 
 -- whether a note is the end
 abbrev pub is_end : {M E : Type 0} → NoteOf M E → Bool

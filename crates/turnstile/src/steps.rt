@@ -13,7 +13,7 @@ pub struct Turns<T> {
 }
 
 impl<T: Named> TableRule<Option<T>, View<T>, Snapshot<T>> for Turns<T> {
-    ghost holds = { λ key. Kept (Stays T.name T.reached T.follows key.value) };
+    ghost holds = { λ key. Kept (Stays T.name T.reached T.follows T.whole key.value) };
 
     ghost first = { λ key. owner key.value };
 }
@@ -24,7 +24,7 @@ pub struct Enter<T> {
 }
 
 impl<T: Named> Play<Option<T>, View<T>> for Enter<T> {
-    ghost then = { λ _ m n w. Tried (Stays T.name T.reached T.follows) m n w };
+    ghost then = { λ _ m n w. Tried (Stays T.name T.reached T.follows T.whole) m n w };
 }
 
 /// A store of 0 into the flag, by the pass that is inside: the slot is home again.

@@ -1,19 +1,24 @@
-//! The calls of a turnstile.
-ghost use Rattle.std.specs.Prelude.{◌≡◌, ◌+◌, IfOk, IfErr, All, vec_len, [], ◌∷◌, Some};
+//! The way through a turnstile: in, out, and the value back at the end.
+ghost use Rattle.std.specs.Prelude.{◌≡◌, ◌+◌, ◌<◌, ◌≤◌, IfOk, IfErr, IfSome, IfNone, All, vec_len, [], ◌∷◌, Some};
 ghost use Rattle.turnstile.specs.Turns.{Stays};
 ghost use Rattle.turnstile.specs.Passes.{made_with, passes_out, table_of, IsPassOf, IsOutside, IsInside, entries, busy};
 
 use crate::named::Named;
 use crate::own::Own;
-use crate::plays::{Enter, Give, Leave, Return};
+use crate::steps::{Enter, Give, Leave, Return};
 use crate::turn::{Busy, Pass, Refused, Turnstile};
 use atomic_table::Table;
 use std::alloc::Global;
 use std::snapshot::Snapshot;
+use std::thread;
+
+/// How often at least a worker that finds the turnstile held each time tries it before it gives up.
+pub const PATIENCE: u64 = 64;
 
 impl<T: Named> Turnstile<T> {
     /// A turnstile with the value inside its slot and no passes. Its one refusal is want of memory, and it hands the value back.
     pub fn new(alloc: Global, value: T) -> Result<Turnstile<T>, Refused<T>>
+        requires { T.whole value }
         ensures made { IfOk result (λ t. made_with t ≡ value) }
         ensures passes { IfOk result (λ t. passes_out t ≡ 0) }
         ensures refused { IfErr result (λ r. r.value ≡ value) }
@@ -59,7 +64,7 @@ impl<T: Named> Turnstile<T> {
         requires of { IsPassOf self.now pass.old }
         requires outside { IsOutside pass.old }
         ensures of { IsPassOf self.now pass.new }
-        ensures value { IfOk result (λ v. Stays T.name T.reached T.follows (made_with self.now) v) }
+        ensures value { IfOk result (λ v. Stays T.name T.reached T.follows T.whole (made_with self.now) v) }
         ensures inside { IfOk result (λ _. IsInside pass.new) }
         ensures entered { IfOk result (λ _. (entries pass.new ≡ entries pass.old + 1) × (busy pass.new ≡ busy pass.old)) }
         ensures outside { IfErr result (λ _. IsOutside pass.new) }
@@ -73,11 +78,33 @@ impl<T: Named> Turnstile<T> {
         Ok(shared.exchange(&mut pass.seat, 0, None).unwrap())
     }
 
-    /// Puts a value back, and the pass is outside again. The value has the turnstile's name and follows the value with which the turnstile was made.
+    /// Tries the flag until it is free, at most so many times, and yields the thread after each try that found it held. `None` comes exactly where each try did.
+    pub fn enter_within(&self, pass: &mut Pass<T>, tries: u64) -> Option<T>
+        requires of { IsPassOf self.now pass.old }
+        requires outside { IsOutside pass.old }
+        ensures of { IsPassOf self.now pass.new }
+        ensures value { IfSome result (λ v. Stays T.name T.reached T.follows T.whole (made_with self.now) v) }
+        ensures inside { IfSome result (λ _. IsInside pass.new) }
+        ensures entered { IfSome result (λ _. entries pass.new ≡ entries pass.old + 1) }
+        ensures found_free { IfSome result (λ _. (busy pass.old ≤ busy pass.new) × (busy pass.new < busy pass.old + tries)) }
+        ensures outside { IfNone result (IsOutside pass.new) }
+        ensures stayed { IfNone result (entries pass.new ≡ entries pass.old) }
+        ensures found_held { IfNone result (busy pass.new ≡ busy pass.old + tries) }
+    {
+        for _ in 0..tries {
+            if let Ok(value) = self.try_enter(pass) {
+                return Some(value);
+            }
+            thread::yield_now();
+        }
+        None
+    }
+
+    /// Puts a value back, and the pass is outside again.
     pub fn leave(&self, pass: &mut Pass<T>, value: T)
         requires of { IsPassOf self.now pass.old }
         requires inside { IsInside pass.old }
-        requires value { Stays T.name T.reached T.follows (made_with self.now) value }
+        requires value { Stays T.name T.reached T.follows T.whole (made_with self.now) value }
         ensures of { IsPassOf self.now pass.new }
         ensures outside { IsOutside pass.new }
         ensures entries { entries pass.new ≡ entries pass.old }
@@ -93,7 +120,7 @@ impl<T: Named> Turnstile<T> {
     pub fn into_value(self, passes: Vec<Pass<T>>) -> T
         requires all { vec_len passes ≡ passes_out self }
         requires each { All (λ p. IsPassOf self p × IsOutside p) passes.items }
-        ensures { Stays T.name T.reached T.follows (made_with self) result }
+        ensures { Stays T.name T.reached T.follows T.whole (made_with self) result }
     {
         let Turnstile { table, own } = self;
         let Some(own) = own else { unreachable!() };
