@@ -1,20 +1,20 @@
 -- Why the coefficient at a candidate of a division is final.
-use Rattle.std.proofs.Common.{◌≡◌, ℕ, ◌<◌, ◌⊎◌, inl, inr, Bool, true, false, List, [], ◌∷◌, ◌++◌, length, take, Option, Some, None, ℤ, pos, ◌+ℤ◌, neg_ℤ, refl, sym, ap, ap₂, ◌∙◌, subst, subst₂, arith, true≢false, append_assoc, append-nil}
+use Rattle.std.proofs.Common.{◌≡◌, ℕ, ◌<◌, ◌⊎◌, inl, inr, Bool, true, false, List, [], ◌∷◌, ◌++◌, length, take, Option, Some, None, ℤ, pos, ◌+ℤ◌, neg_ℤ, refl, sym, ap, ap₂, ◌∙◌, subst, arith, true≢false, append_assoc, append-nil, drop}
 use Rattle.std.proofs.lemmas.Int.{ints}
 use native.Mathlib.Decide.{ℕ_discrete}
 use Rattle.sdmp_laws.specs.Order.{Order, ◌⋅◌, Divides, over, alike, Below}
 use Rattle.sdmp_laws.specs.Ring.{red}
-use Rattle.sdmp_laws.specs.Poly.{Term, total, coef, Same, term_times, row, times, minus, Over, AllBelow, Decreasing, IsPoly, terms, sum_over, is_zero, lm}
-use Rattle.sdmp_laws.specs.Division.{Division, IsAccepted, IsExact, NoneDivisible, InScope, AtOrAbove, Turn, Turns, AllAtOrBelow}
+use Rattle.sdmp_laws.specs.Poly.{Term, total, coef, Same, row, times, minus, Over, AllBelow, IsPoly, terms, sum_over, is_zero, lm}
+use Rattle.sdmp_laws.specs.Division.{Division, IsAccepted, IsExact, NoneDivisible, InScope, AtOrAbove, Turn, Turns}
 use Rattle.sdmp_laws.specs.LongDivision.{quotient_list}
 use Rattle.whole_laws.specs.Notes.{Note, QuotientScript, after_lead, lead_term, divisor_rows, script_list, terms_in, has, AboveTop, Carry, owed}
 use Rattle.whole_laws.specs.Wholes.{head_terms, IsHead, notes_of}
-use Rattle.divide_wholes.specs.Wholes.{DivideState, DivideWhole, divide_script, all_owed, latest_mark, AllUnderFront, RemainderFits, IsSettled, IsCandidate, IsBound, IsFinished}
-use Rattle.divide_wholes.specs.DivideLaws.{CandidateFinal, CandidateTerm, CandidateNone, BoundIsFront, FinishedIsRight, WorkerFinal}
+use Rattle.divide_wholes.specs.Wholes.{DivideState, DivideWhole, divide_script, all_owed, latest_mark, AllUnderFront, RemainderFits, IsSettled, IsCandidate, IsBound, IsFinished, IsFrontAt}
+use Rattle.divide_wholes.specs.DivideLaws.{CandidateFinal, CandidateTerm, CandidateNone, BoundIsFront, FinishedIsRight, FrontChoices}
 use Rattle.sdmp_laws.specs.declared.Mode.{Mode}
 use Rattle.sdmp_laws.specs.declared.Mode.TheVariants.{Exact, Remainder}
 use Rattle.sdmp_laws.proofs.Ints.{red_add, red_zero, red_neg, add_zero, zero_add}
-use Rattle.sdmp_laws.proofs.OrderLemmas.{Three, is_less, is_equal, is_greater, below_total, order_facts, length_times, alike_same, times_comm, times_assoc}
+use Rattle.sdmp_laws.proofs.OrderLemmas.{Three, is_less, is_equal, is_greater, below_total, order_facts, length_times, alike_same}
 use Rattle.sdmp_laws.proofs.Tests.{or_out}
 use Rattle.sdmp_laws.proofs.PolyLemmas.{total_append, total_minus, same_total, from_total, delta, total_weigh, weigh_times_append, times_append_left, red_difference, red_difference_back, Same-trans, Same-append, Same-refl}
 use Rattle.sdmp_laws.proofs.TermsLemmas.{total_nil, total_above, total_other, nothing_below, head_facts, tail_poly, is_zero_yes, is_zero_no, terms_poly, terms_same}
@@ -22,9 +22,10 @@ use Rattle.sdmp_laws.proofs.DivisionLemmas.{AllBelow-append, total_at, row_below
 use Rattle.sdmp_laws.proofs.LongLemmas.{quotient_list_is, prefix_begins, begins_prefix, Over-times, exact_is_list, over_times, length_over, all_in_scope, Over-minus}
 use Rattle.whole_laws.proofs.NotesLemmas.{taken_owed, total_hasnt}
 use Rattle.divide_wholes.proofs.LatestMark.{IsSent, latest_sent}
-use Rattle.sdmp_laws.proofs.NextTerm.{AllBelow-at, at_then_below, at_then_at, AllAtOrBelow-above, below_last, back_poly}
+use Rattle.sdmp_laws.proofs.NextTerm.{AllBelow-at, at_then_at, AllAtOrBelow-above, below_last, back_poly}
 use Rattle.whole_laws.proofs.Sums.{nothing_over}
-use Rattle.sdmp_laws.proofs.ListLemmas.{Over-every, AllBelow-every, Decreasing-every, AllBelow-back}
+use Rattle.sdmp_laws.proofs.ListLemmas.{Over-every, AllBelow-every, AllBelow-back}
+use Rattle.std.proofs.Math.Seq.{drop-nil}
 
 -- ---- products of later quotient terms with the lower terms of the divisor stand below the front
 row_under : (ord : Order) (n : ℕ) (t : Term) (l x : List ℕ) (B : List Term) → length l ≡ n → Over n B → AllBelow ord l B → AtOrAbove ord (t.monomial ⋅ l) x → AllBelow ord x (row t B)
@@ -46,7 +47,7 @@ unfolding after_lead lm Over AllBelow
 lower_of ord p n [] i = (tt, tt)
 lower_of ord p n (t ∷ g) i = (i.vectors.1, (head_facts ord p n t g i).1)
 
-rows_below : (d : Division) (W w : ℕ) → IsAccepted d → AllBelow d.ord (lm d.g) (divisor_rows d.g W w)
+pub rows_below : (d : Division) (W w : ℕ) → IsAccepted d → AllBelow d.ord (lm d.g) (divisor_rows d.g W w)
 unfolding divisor_rows
 rows_below d W w a = AllBelow-every d.ord (lm d.g) W w 1 (after_lead d.g) (lower_of d.ord d.p d.n d.g a.divisor).1
 
@@ -55,7 +56,7 @@ unfolding divisor_rows
 rows_over d W w a = Over-every d.n W w 1 (after_lead d.g) (lower_of d.ord d.p d.n d.g a.divisor).0
 
 -- ---- the terms of q*, cut at q
-times_split : (A B C : List Term) (m : List ℕ) → total (times (A ++ B) C) m ≡ total (times A C) m +ℤ total (times B C) m
+pub times_split : (A B C : List Term) (m : List ℕ) → total (times (A ++ B) C) m ≡ total (times A C) m +ℤ total (times B C) m
 times_split A B C m = ap (λ (L : List Term). total L m) (times_append_left A B C) ∙ total_append (times A C) (times B C) m
 
 times_split_right : (A B C : List Term) (m : List ℕ) → total (times A (B ++ C)) m ≡ total (times A B) m +ℤ total (times A C) m
@@ -142,13 +143,29 @@ mark_owes_nothing d W w x notes q later a c e l u k top = pick (has x (terms_in 
         ap (red d.p) (sym (zero_add (total (owed (QuotientScript d W w) notes) x)) ∙ ap (λ (y : ℤ). y +ℤ total (owed (QuotientScript d W w) notes) x) (sym (total_hasnt x (terms_in notes) h)) ∙ sym (total_append (terms_in notes) (owed (QuotientScript d W w) notes) x) ∙ ap (λ (L : List Term). total L x) (taken_owed (QuotientScript d W w) notes c))
         ∙ script_total d W w x ∙ no_sent h
 
+-- a worker whose part of the divisor has no term owes nothing
+pub times_nothing : (A : List Term) → times A [] ≡ []
+unfolding times row
+times_nothing [] = refl
+times_nothing (t ∷ A) = times_nothing A
+
+no_terms : (ord : Order) (p : ℕ) (A : List Term) → A ≡ [] → terms ord p A ≡ []
+unfolding terms
+no_terms ord p A e = ap (terms ord p) e
+
+pub no_rows_owe : (d : Division) (W w : ℕ) (notes : List Note) → divisor_rows d.g W w ≡ [] → owed (QuotientScript d W w) notes ≡ []
+unfolding owed script_list
+no_rows_owe d W w notes e =
+    ap (drop (length (terms_in notes))) (no_terms d.ord d.p (times (quotient_list d) (divisor_rows d.g W w)) (ap (times (quotient_list d)) e ∙ times_nothing (quotient_list d))) ∙ drop-nil (length (terms_in notes))
+
 -- ---- the coefficient is final
 pub settled_owes_nothing : (s : DivideState) (x : List ℕ) (w : ℕ) (later : List Term) → IsAccepted s.division → DivideWhole s → s.q ++ later ≡ quotient_list s.division → length x ≡ s.division.n → AllUnderFront s.division (Some x) later → w < s.workers → IsSettled s x w → red s.division.p (total (owed (divide_script s w) (notes_of s.taken w)) x) ≡ pos 0
 unfolding IsSettled divide_script
 settled_owes_nothing s x w later a whole e l u h (inl k) =
     head_owes_nothing s.division s.workers w x (notes_of s.taken w) k.0 a (whole.carried w h) (subst (λ (o : Option Term). IsHead o (notes_of s.taken w)) k.1 (whole.heads_are w h)) k.2
-settled_owes_nothing s x w later a whole e l u h (inr k) =
+settled_owes_nothing s x w later a whole e l u h (inr (inl k)) =
     mark_owes_nothing s.division s.workers w x (notes_of s.taken w) s.q later a (whole.carried w h) e l u k.0 k.1
+settled_owes_nothing s x w later a whole e l u h (inr (inr k)) = ap (λ (L : List Term). red s.division.p (total L x)) (no_rows_owe s.division s.workers w (notes_of s.taken w) k) ∙ ap (red s.division.p) (total_nil x) ∙ red_zero s.division.p
 
 -- at an x where every worker is settled and no later quotient term belongs above, what is left of f after q*g is the remainder so far and the unread part less the heads
 final_at : (s : DivideState) (x : List ℕ) (later : List Term) → IsAccepted s.division → DivideWhole s → s.q ++ later ≡ quotient_list s.division → length x ≡ s.division.n → AllUnderFront s.division (Some x) later → ((w : ℕ) → w < s.workers → IsSettled s x w)
@@ -231,7 +248,8 @@ above_top_up ord (Some t) x y h (inr b) = (order_facts ord).transitive t x y h b
 pub settled_up : (s : DivideState) (x y : List ℕ) (w : ℕ) → AtOrAbove s.division.ord x y → IsSettled s x w → IsSettled s y w
 unfolding IsSettled
 settled_up s x y w k (inl h) = inl (h.0, h.1, at_then_at s.division.ord (h.0).monomial x y h.2 k)
-settled_up s x y w k (inr h) = inr (h.0, above_top_up s.division.ord (latest_mark (notes_of s.taken w)).1 x y h.1 k)
+settled_up s x y w k (inr (inl h)) = inr (inl (h.0, above_top_up s.division.ord (latest_mark (notes_of s.taken w)).1 x y h.1 k))
+settled_up s x y w k (inr (inr h)) = inr (inr h)
 
 -- ---- no later quotient term belongs above the candidate
 first_below : (ord : Order) (t s : Term) (A : List Term) → AllBelow ord t.monomial (s ∷ A) → Below ord s.monomial t.monomial
@@ -341,8 +359,24 @@ candidate_term s x u a whole c v r z e =
     begins_prefix d (s.q ++ record { monomial = over x l; coefficient = u } ∷ []) a
     (Turns-push d d.f s.q (record { monomial = over x l; coefficient = u }) (prefix_begins d s.q a whole.quotient) turn)
 
+-- ---- a front at a bound
+under_multiples : (d : Division) (x y : List ℕ) (A : List Term) → IsAccepted d → Over d.n A → IsFrontAt d x y → AllUnderFront d (Some x) A → AllUnderFront d (Some y) A
+unfolding AllUnderFront Over
+under_multiples d x y [] a o f h = tt
+under_multiples d x y (t ∷ A) a o f h =
+    let l : length t.monomial ≡ length (lm d.g) = o.0 ∙ sym (length_lm d a) in
+    (f.multiples (t.monomial ⋅ lm d.g) (length_times t.monomial (lm d.g) l ∙ o.0) (divides_times t.monomial (lm d.g) l) h.0, under_multiples d x y A a o.1 f h.1)
+
 pub bound_is_front : BoundIsFront
-bound_is_front s x a whole c later e = later_under s x later a whole c e
+bound_is_front s x y a whole c f later e = under_multiples s.division x y later a (later_poly s later a e).vectors f (later_under s x later a whole c e)
+
+pub front_choices : FrontChoices
+front_choices d x y lx ly = (record { vector = lx; multiples = λ m l v h. h }, λ none. record { vector = ly; multiples = λ m l v h. pick m (none m l v) h (below_total d.ord m y (l ∙ sym ly)) })
+  where
+    pick : (m : List ℕ) → (Below d.ord y m → AtOrAbove d.ord m x → ⊥) → AtOrAbove d.ord m x → Three (Below d.ord m y) (m ≡ y) (Below d.ord y m) → AtOrAbove d.ord m y
+    pick m none h (is_less b) = inr b
+    pick m none h (is_equal e) = inl e
+    pick m none h (is_greater b) = absurd (none b h)
 
 -- ---- where no term fits
 exact_no_more : (d : Division) (m : List ℕ) → d.mode ≡ Exact → InScope d.mode (lm d.g) m
@@ -477,87 +511,3 @@ finished_is_right s a whole c =
         none_divisible = remainder_none d.mode d s.r m whole.remainder;
       }),
     )
-
--- ---- a dividing worker
--- the order is read off the products as well
-below_back : (ord : Order) (a b c : List ℕ) → length a ≡ length b → Below ord (a ⋅ c) (b ⋅ c) → Below ord a b
-below_back ord a b c l h = pick (below_total ord a b l)
-  where
-    pick : Three (Below ord a b) (a ≡ b) (Below ord b a) → Below ord a b
-    pick (is_less k) = k
-    pick (is_equal e) = absurd ((order_facts ord).irreflexive (a ⋅ c) (subst (λ (v : List ℕ). Below ord (a ⋅ c) (v ⋅ c)) (sym e) h))
-    pick (is_greater k) = absurd ((order_facts ord).irreflexive (a ⋅ c) ((order_facts ord).transitive (a ⋅ c) (b ⋅ c) (a ⋅ c) h ((order_facts ord).compatible b a c (sym l) k)))
-
-times_at : (ord : Order) (a b c : List ℕ) → length a ≡ length b → AtOrAbove ord a b → AtOrAbove ord (a ⋅ c) (b ⋅ c)
-times_at ord a b c l (inl e) = inl (ap (λ (v : List ℕ). v ⋅ c) e)
-times_at ord a b c l (inr h) = inr ((order_facts ord).compatible a b c l h)
-
-times_at_left : (ord : Order) (a b c : List ℕ) → length a ≡ length b → AtOrAbove ord a b → AtOrAbove ord (c ⋅ a) (c ⋅ b)
-times_at_left ord a b c l h = subst₂ (λ (v w : List ℕ). AtOrAbove ord v w) (times_comm a c) (times_comm b c) (times_at ord a b c l h)
-
--- a later term t and a row u at r or below: t*u is below x, since t*lm(g)*u is at front*r or below
-product_below : (ord : Order) (n : ℕ) (t u l front r x : List ℕ) → length t ≡ n → length u ≡ n → length l ≡ n → length front ≡ n → length r ≡ n → length x ≡ n → AtOrAbove ord (t ⋅ l) front → AtOrAbove ord u r → Below ord (front ⋅ r) (x ⋅ l) → Below ord (t ⋅ u) x
-product_below ord n t u l front r x lt lu ll lf lr lx h k b =
-    below_back ord (t ⋅ u) x l (length_times t u (lt ∙ sym lu) ∙ lt ∙ sym lx)
-    (subst (λ (v : List ℕ). Below ord v (x ⋅ l)) swap
-    (at_then_below ord ((t ⋅ l) ⋅ u) (front ⋅ r) (x ⋅ l)
-    (at_then_at ord ((t ⋅ l) ⋅ u) (front ⋅ u) (front ⋅ r) (times_at ord (t ⋅ l) front u (length_times t l (lt ∙ sym ll) ∙ lt ∙ sym lf) h) (times_at_left ord u r front (lu ∙ sym lr) k)) b))
-  where
-    swap : (t ⋅ l) ⋅ u ≡ (t ⋅ u) ⋅ l
-    swap = times_assoc t l u ∙ ap (λ (v : List ℕ). t ⋅ v) (times_comm l u) ∙ sym (times_assoc t u l)
-
-row_under_x : (ord : Order) (n : ℕ) (t : Term) (l front r x : List ℕ) (B : List Term) → length t.monomial ≡ n → length l ≡ n → length front ≡ n → length r ≡ n → length x ≡ n → AtOrAbove ord (t.monomial ⋅ l) front → Below ord (front ⋅ r) (x ⋅ l) → Over n B → AllAtOrBelow ord r B → AllBelow ord x (row t B)
-unfolding Over AllAtOrBelow row term_times AllBelow
-row_under_x ord n t l front r x [] lt ll lf lr lx h b o k = tt
-row_under_x ord n t l front r x (u ∷ B) lt ll lf lr lx h b o k =
-    (product_below ord n t.monomial u.monomial l front r x lt o.0 ll lf lr lx h k.0 b, row_under_x ord n t l front r x B lt ll lf lr lx h b o.1 k.1)
-
-later_under_x : (d : Division) (front r x : List ℕ) (A B : List Term) → length (lm d.g) ≡ d.n → length front ≡ d.n → length r ≡ d.n → length x ≡ d.n → Over d.n A → AllUnderFront d (Some front) A → Below d.ord (front ⋅ r) (x ⋅ lm d.g) → Over d.n B → AllAtOrBelow d.ord r B → AllBelow d.ord x (times A B)
-unfolding Over AllUnderFront times
-later_under_x d front r x [] B ll lf lr lx oa h b o k = nothing_below d.ord x
-later_under_x d front r x (t ∷ A) B ll lf lr lx oa h b o k =
-    AllBelow-append d.ord x (row t B) (times A B)
-    (row_under_x d.ord d.n t (lm d.g) front r x B oa.0 ll lf lr lx h.0 b o k)
-    (later_under_x d front r x A B ll lf lr lx oa.1 h.1 b o k)
-
-below_at : (ord : Order) (m : List ℕ) (B : List Term) → AllBelow ord m B → AllAtOrBelow ord m B
-unfolding AllBelow AllAtOrBelow
-below_at ord m [] h = tt
-below_at ord m (t ∷ B) h = (inr h.0, below_at ord m B h.1)
-
-lower_decreasing : (ord : Order) (g : List Term) → Decreasing ord g → Decreasing ord (after_lead g)
-unfolding Decreasing after_lead
-lower_decreasing ord [] h = tt
-lower_decreasing ord (t ∷ g) h = h.1
-
-rows_decreasing : (d : Division) (W w : ℕ) → IsAccepted d → Decreasing d.ord (divisor_rows d.g W w)
-unfolding divisor_rows
-rows_decreasing d W w a = Decreasing-every d.ord W w 1 (after_lead d.g) (lower_decreasing d.ord d.g a.divisor.decreasing)
-
-times_nothing : (A : List Term) → times A [] ≡ []
-unfolding times row
-times_nothing [] = refl
-times_nothing (t ∷ A) = times_nothing A
-
-over_head : (n : ℕ) (u : Term) (B : List Term) → Over n (u ∷ B) → length u.monomial ≡ n
-unfolding Over
-over_head n u B o = o.0
-
-at_own : (ord : Order) (u : Term) (B : List Term) → Decreasing ord (u ∷ B) → AllAtOrBelow ord u.monomial (u ∷ B)
-unfolding Decreasing AllAtOrBelow
-at_own ord u B h = (inl refl, below_at ord u.monomial B h.0)
-
-later_rows : (d : Division) (front x : List ℕ) (A B : List Term) → length (lm d.g) ≡ d.n → length front ≡ d.n → length x ≡ d.n → Over d.n A → AllUnderFront d (Some front) A → Below d.ord (front ⋅ lm B) (x ⋅ lm d.g) → Over d.n B → Decreasing d.ord B → total (times A B) x ≡ pos 0
-unfolding lm
-later_rows d front x A [] ll lf lx oa h b o k = ap (λ (L : List Term). total L x) (times_nothing A) ∙ total_nil x
-later_rows d front x A (u ∷ B) ll lf lx oa h b o k =
-    total_above d.ord x (times A (u ∷ B))
-    (later_under_x d front u.monomial x A (u ∷ B) ll lf (over_head d.n u B o) lx oa h b o (at_own d.ord u B k))
-
-pub worker_final : WorkerFinal
-unfolding coef
-worker_final d W w known later front x a e h lf lx b =
-    let G = divisor_rows d.g W w in
-    let i = back_poly d.ord d.p d.n known later (subst (λ (L : List Term). IsPoly d.ord d.p d.n L) (sym e) (quotient_poly d a)) in
-    let z = later_rows d front x later G (length_lm d a) lf lx i.vectors h b (rows_over d W w a) (rows_decreasing d W w a) in
-    ap (red d.p) (ap (λ (L : List Term). total (times L G) x) (sym e) ∙ times_split known later G x ∙ ap (λ (y : ℤ). total (times known G) x +ℤ y) z ∙ add_zero (total (times known G) x))

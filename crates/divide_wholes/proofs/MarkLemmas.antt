@@ -5,9 +5,9 @@ use Rattle.std.proofs.lemmas.List.{take-append-le, take_all}
 use Rattle.std.proofs.lemmas.List.Elements.{All-nil, All-cons, All-head, All-tail, All-append, All-weaker}
 use Rattle.std.proofs.lemmas.List.Sorted.{All-permutation}
 use mathlib.Core.List.{IsPrefix}
-use Rattle.sdmp_laws.specs.Order.{Order, ◌⋅◌, alike, Below}
+use Rattle.sdmp_laws.specs.Order.{Order, alike, Below}
 use Rattle.sdmp_laws.specs.Ring.{red}
-use Rattle.sdmp_laws.specs.Poly.{Term, total, coef, Same, row, term_times, times, minus, is_zero, lm, AllBelow}
+use Rattle.sdmp_laws.specs.Poly.{Term, total, coef, Same, row, term_times, times, minus, is_zero, AllBelow}
 use Rattle.sdmp_laws.specs.Division.{Division, IsAccepted}
 use Rattle.sdmp_laws.specs.LongDivision.{quotient_list}
 use Rattle.sdmp_laws.proofs.Ints.{red_add, red_neg, red_red, red_zero}
@@ -17,7 +17,7 @@ use Rattle.sdmp_laws.proofs.PolyLemmas.{total_append, total_minus, same_total, f
 use Rattle.sdmp_laws.proofs.TermsLemmas.{total_nil, total_other, total_above, total_at_head, AllBelow-up, is_zero_yes, is_zero_no}
 use Rattle.sdmp_laws.proofs.NextTerm.{AllAtOrBelow-above}
 use Rattle.whole_laws.specs.Notes.{Note, TermNote, MarkNote, EndNote, QuotientScript, divisor_rows, script_list, terms_in, has, IsProductMonomial, AboveTop, TopFalls, TopIsProduct, IsMark, NoEnd, MarkMayFollow, EndMayFollow, MayFollow, CarryAfter, Carry}
-use Rattle.divide_wholes.specs.Wholes.{AllUnderFront, mark_after, latest_mark}
+use Rattle.divide_wholes.specs.Wholes.{mark_after, latest_mark, IsBeyond}
 use Rattle.divide_wholes.specs.Workers.{MarkRises, MarkFollows, LatestMark, worker_rows, worker_script, sum_at, IsTop, WorkerStart, WorkerLearn, WorkerHand, WorkerSend, WorkerMark}
 use Rattle.whole_laws.proofs.NotesLemmas.{terms_in-append, terms_in-mark, Carry-push, has-append_left, total_hasnt}
 use Rattle.divide_wholes.proofs.WorkerLemmas.{worker_next}
@@ -262,21 +262,21 @@ handed_sum p F S K U T V m e u k =
     let moved : total (minus F S) m +ℤ neg_ℤ (total K m) ≡ total (minus F (S ++ K)) m = omega (arith, ints, old, new, both) in
     ap (red p) v ∙ red_add p (total U m) (total (minus F S) m) (neg_ℤ (total T m)) (neg_ℤ (total K m)) e (red_neg p (total T m) (total K m) (sym k)) ∙ ap (red p) moved
 
-handed_next : (d : Division) (W w : ℕ) (known later S : List Term) (front x : List ℕ) (c : ℤ) → IsAccepted d → known ++ later ≡ quotient_list d → AllUnderFront d (Some front) later → length front ≡ d.n → length x ≡ d.n
-    → Below d.ord (front ⋅ lm (divisor_rows d.g W w)) (x ⋅ lm d.g) → IsPrefix S (script_list (QuotientScript d W w)) → coef d.p (minus (times known (divisor_rows d.g W w)) S) x ≡ c
+handed_next : (d : Division) (W w : ℕ) (known later S : List Term) (front x : List ℕ) (c : ℤ) → IsAccepted d → known ++ later ≡ quotient_list d → length front ≡ d.n → length x ≡ d.n → IsBeyond d (divisor_rows d.g W w) front later x
+    → IsPrefix S (script_list (QuotientScript d W w)) → coef d.p (minus (times known (divisor_rows d.g W w)) S) x ≡ c
     → ((m : List ℕ) → length m ≡ d.n → Below d.ord x m → coef d.p (minus (times known (divisor_rows d.g W w)) S) m ≡ pos 0) → IsPrefix (S ++ sum_at c x) (script_list (QuotientScript d W w))
 unfolding sum_at
-handed_next d W w known later S front x c a e h lf lx b i z above = pick (is_zero c) refl
+handed_next d W w known later S front x c a e lf lx h i z above = pick (is_zero c) refl
   where
     pick : (y : Bool) → is_zero c ≡ y → IsPrefix (S ++ cond y [] (record { monomial = x; coefficient = c } ∷ [])) (script_list (QuotientScript d W w))
     pick true q = subst (λ (L : List Term). IsPrefix L (script_list (QuotientScript d W w))) (sym (append-nil S)) i
     pick false q =
         subst (λ (k : ℤ). IsPrefix (S ++ record { monomial = x; coefficient = k } ∷ []) (script_list (QuotientScript d W w))) z
-        (worker_next d W w known later S front x a e h lf lx b i (λ o. is_zero_no c q (sym z ∙ o)) above)
+        (worker_next d W w known later S front x a e lf lx h i (λ o. is_zero_no c q (sym z ∙ o)) above)
 
 pub worker_hand : WorkerHand
 unfolding worker_script worker_rows coef
-worker_hand s x taken unread later front a whole none lx h at below e under lf b =
+worker_hand s x taken unread later front a whole none lx h at below e lf beyond =
     let d = s.division in let G = divisor_rows d.g s.workers s.worker in let S = terms_in s.sent in let F = times s.known G in
     let P : Term → Type 0 = λ u. IsProductMonomial s.known G u.monomial in
     let bare : S ++ s.kept ≡ S = ap (λ (K : List Term). S ++ K) none ∙ append-nil S in
@@ -290,7 +290,7 @@ worker_hand s x taken unread later front a whole none lx h at below e under lf b
       carried = whole.carried;
       sum = from_total d.p unread (minus F (S ++ K)) (λ m. handed_sum d.p F S K s.unread taken unread m (sum m) (parts m) (kept_is d.ord d.p x m s.unread taken unread parts at below));
       products = All-back P taken unread (All-permutation P s.unread (taken ++ unread) h whole.products);
-      next = handed_next d s.workers s.worker s.known later S front x (red d.p (total s.unread x)) a e under lf lx b (subst (λ (L : List Term). IsPrefix L (script_list (QuotientScript d s.workers s.worker))) bare whole.next) (sym (sum x))
+      next = handed_next d s.workers s.worker s.known later S front x (red d.p (total s.unread x)) a e lf lx beyond (subst (λ (L : List Term). IsPrefix L (script_list (QuotientScript d s.workers s.worker))) bare whole.next) (sym (sum x))
           (λ m l k. sym (sum m) ∙ ap (red d.p) (nothing m k) ∙ red_zero d.p);
     }
 

@@ -78,13 +78,13 @@ front_follows s notes x whole h l u f =
     (l, under_row s notes x h u, λ later e. f later (ap (λ (L : List Term). L ++ later) (sym (known_is s notes whole h)) ∙ e))
 
 pub row_fronted : RowFronted
-row_fronted s x notes a whole b u h =
-    let may = front_follows s notes x whole h b.vector u (bound_is_front s x a whole b) in (
+row_fronted s x y notes a whole b f u h =
+    let may = front_follows s notes y whole h f.vector u (bound_is_front s x y a whole b f) in (
       may,
       record {
-        carried = (row_laws s.division s.start a).0 notes (RowFront x) h.carried may;
-        terms = row_terms-front notes x ∙ h.terms;
-        front = λ some. front_of_front s.division None notes x;
+        carried = (row_laws s.division s.start a).0 notes (RowFront y) h.carried may;
+        terms = row_terms-front notes y ∙ h.terms;
+        front = λ some. front_of_front s.division None notes y;
         begun = λ e. absurd (cc e);
       },
     )

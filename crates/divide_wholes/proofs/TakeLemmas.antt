@@ -26,7 +26,7 @@ past_front s x (Some m) p = p
 
 pub divide_front : DivideFront
 unfolding divide_script all_owed
-divide_front s x a whole b = record {
+divide_front s x y a whole b f = record {
   heads_count = whole.heads_count;
   taken_count = whole.taken_count;
   carried = whole.carried;
@@ -36,10 +36,10 @@ divide_front s x a whole b = record {
   within = whole.within;
   unread_suffix = whole.unread_suffix;
   remainder = whole.remainder;
-  past = past_front s x s.last whole.past;
+  past = past_front s y s.last whole.past;
   row_terms = whole.row_terms;
   row_start = whole.row_start;
-  under_front = bound_is_front s x a whole b;
+  under_front = bound_is_front s x y a whole b f;
 }
 
 -- ---- taking a note

@@ -10,7 +10,7 @@ use Rattle.whole_laws.specs.Notes.{Note, QuotientScript, script_list, has, Carry
 use Rattle.sdmp_laws.specs.Limits.{PassesBound}
 use Rattle.divide_wholes.specs.Row.{RowNote, known_after, front_after, RowMayFollow, RowCarry}
 use Rattle.whole_laws.specs.Wholes.{head_terms, notes_of, head_of_worker}
-use Rattle.divide_wholes.specs.Wholes.{DivideState, DivideWhole, AllUnderFront, IsCandidate, IsBound, IsFinished, divide_start, processed, found, kept, divide_take, divide_script}
+use Rattle.divide_wholes.specs.Wholes.{DivideState, DivideWhole, AllUnderFront, IsCandidate, IsBound, IsFinished, divide_start, processed, found, kept, divide_take, divide_script, IsFrontAt, IsBeyond, AllBelowFront}
 use Rattle.sdmp_laws.specs.declared.Mode.TheVariants.{Exact, Remainder}
 
 -- at a candidate x no quotient term that was not found yet belongs above x, and the coefficients of f - q*g in scope at x and above are those of the unread part less the heads
@@ -38,11 +38,18 @@ CandidateNone =
     ((u : ℤ) → Divides (lm s.division.g) x → IsReduced s.division.p u → red s.division.p (u *ℤ lc s.division.g) ≡ coef s.division.p (minus s.unread (head_terms s.heads)) x → ⊥) →
     (q : List Term) → IsExact s.division q → ⊥
 
--- a front may be published at a bound
+-- a front may be published at a bound, and as low as no multiple of lm(g) at the bound or below passes it
 abbrev pub BoundIsFront : Type 0
 BoundIsFront =
-    (s : DivideState) (x : List ℕ) → IsAccepted s.division → DivideWhole s → IsBound s x →
-    (later : List Term) → s.q ++ later ≡ quotient_list s.division → AllUnderFront s.division (Some x) later
+    (s : DivideState) (x y : List ℕ) → IsAccepted s.division → DivideWhole s → IsBound s x → IsFrontAt s.division x y →
+    (later : List Term) → s.q ++ later ≡ quotient_list s.division → AllUnderFront s.division (Some y) later
+
+-- the front may be the bound itself, a multiple of lm(g) at it or below with no multiple between, and any vector where no multiple is at the bound or below
+abbrev pub FrontChoices : Type 0
+FrontChoices =
+    (d : Division) (x y : List ℕ) → length x ≡ d.n → length y ≡ d.n →
+    IsFrontAt d x x
+    × (((m : List ℕ) → length m ≡ d.n → Divides (lm d.g) m → Below d.ord y m → AtOrAbove d.ord m x → ⊥) → IsFrontAt d x y)
 
 -- a finished division has found q*, and its remainder is the one of the pair
 abbrev pub FinishedIsRight : Type 0
@@ -52,12 +59,18 @@ FinishedIsRight =
     × (s.division.mode ≡ Exact → IsExact s.division s.q)
     × (s.division.mode ≡ Remainder → IsRem s.division s.q s.r)
 
--- what a dividing worker may send: with the front m and the first of its rows at r, where x*lm(g) is above m*r, the quotient terms that it doesn't know add nothing to its list at x
+-- the quotient terms after a known one are below it
+abbrev pub LaterBelow : Type 0
+LaterBelow =
+    (d : Division) (before later : List Term) (t : Term) → IsAccepted d → (before ++ t ∷ []) ++ later ≡ quotient_list d →
+    AllBelowFront d (t.monomial ⋅ lm d.g) later
+
+-- what a dividing worker may send: beyond its frontier the quotient terms that it doesn't know add nothing to its list
 abbrev pub WorkerFinal : Type 0
 WorkerFinal =
     (d : Division) (W w : ℕ) (known later : List Term) (front x : List ℕ) → IsAccepted d →
-    known ++ later ≡ quotient_list d → AllUnderFront d (Some front) later → length front ≡ d.n → length x ≡ d.n →
-    Below d.ord (front ⋅ lm (divisor_rows d.g W w)) (x ⋅ lm d.g) →
+    known ++ later ≡ quotient_list d → length front ≡ d.n → length x ≡ d.n →
+    IsBeyond d (divisor_rows d.g W w) front later x →
     coef d.p (times (quotient_list d) (divisor_rows d.g W w)) x ≡ coef d.p (times known (divisor_rows d.g W w)) x
 
 -- the rule of a row's notes: a legal note keeps it, each beginning has it, and no quotient term that isn't yet published is above the front
@@ -96,9 +109,11 @@ DivideKept =
     s.division.mode ≡ Remainder → (Divides (lm s.division.g) x → ⊥) →
     coef s.division.p (minus s.unread (head_terms s.heads)) x ≢ pos 0 → DivideWhole (kept s x)
 
--- where it publishes a bound as the front
+-- where it publishes a front at a bound
 abbrev pub DivideFront : Type 0
-DivideFront = (s : DivideState) (x : List ℕ) → IsAccepted s.division → DivideWhole s → IsBound s x → DivideWhole (record s { front = Some x })
+DivideFront =
+    (s : DivideState) (x y : List ℕ) → IsAccepted s.division → DivideWhole s → IsBound s x → IsFrontAt s.division x y →
+    DivideWhole (record s { front = Some y })
 
 -- and where it takes the next note of a worker that has no head
 abbrev pub DivideTake : Type 0
@@ -110,8 +125,8 @@ DivideTake =
 abbrev pub WorkerNext : Type 0
 WorkerNext =
     (d : Division) (W w : ℕ) (known later sent : List Term) (front x : List ℕ) → IsAccepted d →
-    known ++ later ≡ quotient_list d → AllUnderFront d (Some front) later → length front ≡ d.n → length x ≡ d.n →
-    Below d.ord (front ⋅ lm (divisor_rows d.g W w)) (x ⋅ lm d.g) →
+    known ++ later ≡ quotient_list d → length front ≡ d.n → length x ≡ d.n →
+    IsBeyond d (divisor_rows d.g W w) front later x →
     IsPrefix sent (script_list (QuotientScript d W w)) →
     coef d.p (minus (times known (divisor_rows d.g W w)) sent) x ≢ pos 0 →
     ((m : List ℕ) → length m ≡ d.n → Below d.ord x m → coef d.p (minus (times known (divisor_rows d.g W w)) sent) m ≡ pos 0) →

@@ -8,7 +8,7 @@ use Rattle.sdmp_laws.specs.Limits.{PassesBound}
 use Rattle.whole_laws.specs.Notes.{Note}
 use Rattle.divide_wholes.specs.Row.{RowNote, RowTerm, RowFront, RowCarry, RowMayFollow, row_terms, front_after}
 use Rattle.whole_laws.specs.Wholes.{head_terms}
-use Rattle.divide_wholes.specs.Wholes.{DivideState, DivideWhole, IsCandidate, IsBound, divide_start, divide_take, processed, found, kept}
+use Rattle.divide_wholes.specs.Wholes.{DivideState, DivideWhole, IsCandidate, IsBound, IsFrontAt, divide_start, divide_take, processed, found, kept}
 
 -- these notes are what the merge published in its row: its terms are those found since the row began, and once there is a note the merge's front is the row's
 pub record HasRow (s : DivideState) (notes : List RowNote) : Type 0 where
@@ -38,11 +38,11 @@ RowFound =
     RowMayFollow s.division s.start notes (RowTerm (record { monomial = over x (lm s.division.g); coefficient = u }))
     × HasRow (found s x (record { monomial = over x (lm s.division.g); coefficient = u })) (notes ++ RowTerm (record { monomial = over x (lm s.division.g); coefficient = u }) ∷ [])
 
--- a bound below the front may be published as a front, and then the row says it
+-- a front at a bound may be published where it is below the present front, and then the row says it
 abbrev pub RowFronted : Type 0
 RowFronted =
-    (s : DivideState) (x : List ℕ) (notes : List RowNote) → IsAccepted s.division → DivideWhole s → IsBound s x → IsUnder s.division.ord s.front x → HasRow s notes →
-    RowMayFollow s.division s.start notes (RowFront x) × HasRow (record s { front = Some x }) (notes ++ RowFront x ∷ [])
+    (s : DivideState) (x y : List ℕ) (notes : List RowNote) → IsAccepted s.division → DivideWhole s → IsBound s x → IsFrontAt s.division x y → IsUnder s.division.ord s.front y → HasRow s notes →
+    RowMayFollow s.division s.start notes (RowFront y) × HasRow (record s { front = Some y }) (notes ++ RowFront y ∷ [])
 
 -- the other steps leave the row as it is
 abbrev pub RowKept : Type 0

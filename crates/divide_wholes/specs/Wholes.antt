@@ -1,12 +1,12 @@
 -- What the shared merge of a division holds, said of plain lists.
 use Rattle.std.specs.Prelude.{◌≡◌, ℕ, ◌<◌, ◌≤◌, ◌⊎◌, set, replicate, List, [], ◌∷◌, ◌++◌, length, drop, Option, Some, None}
 use mathlib.Core.List.{IsPrefix, IsSuffix}
-use Rattle.sdmp_laws.specs.Order.{Order, ◌⋅◌, Below}
+use Rattle.sdmp_laws.specs.Order.{Order, ◌⋅◌, Divides, Below}
 use Rattle.sdmp_laws.specs.Poly.{without, Term, coef, Same, times, minus, AllBelow, sum_over, lm, IsPoly}
 use Rattle.sdmp_laws.specs.Division.{AllAtOrBelow, Division, NoneDivisible, AtOrAbove}
 use Rattle.sdmp_laws.specs.LongDivision.{quotient_list}
 use Rattle.sdmp_laws.specs.Limits.{PassesBound}
-use Rattle.whole_laws.specs.Notes.{Note, TermNote, MarkNote, EndNote, Script, QuotientScript, Carry, owed, lead_term, after_lead, AboveTop}
+use Rattle.whole_laws.specs.Notes.{Note, TermNote, MarkNote, EndNote, Script, QuotientScript, Carry, owed, lead_term, after_lead, AboveTop, divisor_rows}
 use Rattle.sdmp_laws.specs.declared.Mode.{Mode}
 use Rattle.sdmp_laws.specs.declared.Mode.TheVariants.{Exact, Remainder}
 use Rattle.whole_laws.specs.Wholes.{head_terms, IsHead, notes_of, head_of_worker, clear_at}
@@ -60,6 +60,17 @@ AllUnderFront d None A = Unit {0}
 AllUnderFront d (Some m) [] = Unit {0}
 AllUnderFront d (Some m) (t ∷ A) = AtOrAbove d.ord (t.monomial ⋅ lm d.g) m × AllUnderFront d (Some m) A
 
+-- each term of A times lm(g) is below m
+unfoldable pub AllBelowFront : Division → List ℕ → List Term → Type 0
+AllBelowFront d m [] = Unit {0}
+AllBelowFront d m (t ∷ A) = Below d.ord (t.monomial ⋅ lm d.g) m × AllBelowFront d m A
+
+-- x is beyond the frontier of a worker with these rows, so that no product of a later term with a row of it stands at x or above. Where the later terms times lm(g) are at the front or below, x*lm(g) has to be above the front times the first row; where they are below the front, at that product or above
+unfoldable pub IsBeyond : Division → List Term → List ℕ → List Term → List ℕ → Type 0
+IsBeyond d rows front later x =
+    (AllUnderFront d (Some front) later × Below d.ord (front ⋅ lm rows) (x ⋅ lm d.g))
+    ⊎ (AllBelowFront d front later × AtOrAbove d.ord (front ⋅ lm rows) (x ⋅ lm d.g))
+
 unfoldable pub RemainderFits : Mode → Division → List Term → Type 0
 RemainderFits Exact d r = r ≡ []
 RemainderFits Remainder d r = IsPoly d.ord d.p d.n r × NoneDivisible (lm d.g) r
@@ -80,11 +91,12 @@ pub record DivideWhole (s : DivideState) : Type 0 where
   pub row_start : s.start ≤ length s.q
   pub under_front : (later : List Term) → s.q ++ later ≡ quotient_list s.division → AllUnderFront s.division s.front later
 
--- at x and above the worker w owes nothing that counts: it has a head at x or below, or it is current and low
+-- at x and above the worker w owes nothing that counts: it has a head at x or below, or it is current and low, or its part of the divisor has no term
 unfoldable pub IsSettled : DivideState → List ℕ → ℕ → Type 0
 IsSettled s x w =
     ((t : Term) × (head_of_worker s.heads w ≡ Some t) × AtOrAbove s.division.ord t.monomial x)
     ⊎ (((latest_mark (notes_of s.taken w)).0 ≡ length s.q) × AboveTop s.division.ord (latest_mark (notes_of s.taken w)).1 x)
+    ⊎ (divisor_rows s.division.g s.workers w ≡ [])
 
 -- x is a candidate whose coefficient is final: nothing that was read stands above it, and every worker is settled there
 pub record IsCandidate (s : DivideState) (x : List ℕ) : Type 0 where
@@ -93,14 +105,19 @@ pub record IsCandidate (s : DivideState) (x : List ℕ) : Type 0 where
   pub heads_below : AllAtOrBelow s.division.ord x (head_terms s.heads)
   pub settled : (w : ℕ) → w < s.workers → IsSettled s x w
 
--- nothing that was read stands above x, and every worker is settled at each monomial above x: the place of a front
+-- nothing that was read stands above x, and every worker is settled at each monomial above x: no later quotient term times lm(g) is above x
 pub record IsBound (s : DivideState) (x : List ℕ) : Type 0 where
   pub vector : length x ≡ s.division.n
   pub unread_below : AllAtOrBelow s.division.ord x s.unread
   pub heads_below : AllAtOrBelow s.division.ord x (head_terms s.heads)
   pub settled_above : (y : List ℕ) (w : ℕ) → Below s.division.ord x y → w < s.workers → IsSettled s y w
 
--- nothing is left to read, and every worker knows all of q and holds no product
+-- y may be the front where x is the bound: each multiple of lm(g) at x or below is at y or below. So may x itself, the greatest such multiple, and 1 where there is none
+pub record IsFrontAt (d : Division) (x y : List ℕ) : Type 0 where
+  pub vector : length y ≡ d.n
+  pub multiples : (m : List ℕ) → length m ≡ d.n → Divides (lm d.g) m → AtOrAbove d.ord m x → AtOrAbove d.ord m y
+
+-- nothing is left to read, and every worker with a part of the divisor knows all of q and holds no product
 pub record IsFinished (s : DivideState) : Type 0 where
   pub no_unread : s.unread ≡ []
   pub no_heads : head_terms s.heads ≡ []

@@ -1,12 +1,12 @@
 -- What a dividing worker holds, said of plain lists, and the notes that it may send.
 use Rattle.std.specs.Prelude.{◌≡◌, ℕ, ℤ, ◌<◌, ◌≤◌, ◌⊎◌, true, cond, List, [], ◌∷◌, ◌++◌, length, take, Option, Some, None, pos, All, IsPermutation}
 use mathlib.Core.List.{IsPrefix}
-use Rattle.sdmp_laws.specs.Order.{Order, ◌⋅◌, Below}
-use Rattle.sdmp_laws.specs.Poly.{Term, coef, Same, row, times, minus, is_zero, lm, AllBelow}
+use Rattle.sdmp_laws.specs.Order.{Order}
+use Rattle.sdmp_laws.specs.Poly.{Term, coef, Same, row, times, minus, is_zero, AllBelow}
 use Rattle.sdmp_laws.specs.Division.{Division, IsAccepted, AllAtOrBelow}
 use Rattle.sdmp_laws.specs.LongDivision.{quotient_list}
 use Rattle.whole_laws.specs.Notes.{Note, TermNote, MarkNote, Script, QuotientScript, divisor_rows, script_list, terms_in, has, IsProductMonomial, AboveTop, TopFalls, TopIsProduct, MayFollow, Carry}
-use Rattle.divide_wholes.specs.Wholes.{AllUnderFront, latest_mark}
+use Rattle.divide_wholes.specs.Wholes.{IsBeyond, latest_mark}
 
 -- a mark (k, b) rises above the mark (j, a): it knows more, or as much with a lower top
 unfoldable pub MarkRises : Order → ℕ × Option (List ℕ) → ℕ → Option (List ℕ) → Type 0
@@ -73,13 +73,12 @@ WorkerLearn =
     (s : WorkerState) (t : Term) (unread : List Term) → WorkerWhole s → IsPrefix (s.known ++ t ∷ []) (quotient_list s.division) →
     IsPermutation (s.unread ++ row t (worker_rows s)) unread → WorkerWhole (record s { known = s.known ++ t ∷ []; unread = unread })
 
--- where it hands out its products at their greatest monomial x, and keeps their sum unless that is zero: it may where x*lm(g) is above the front times its first row
+-- where it hands out its products at their greatest monomial x, and keeps their sum unless that is zero: it may where x is beyond its frontier
 abbrev pub WorkerHand : Type 0
 WorkerHand =
     (s : WorkerState) (x : List ℕ) (taken unread later : List Term) (front : List ℕ) → IsAccepted s.division → WorkerWhole s → s.kept ≡ [] →
     length x ≡ s.division.n → IsPermutation s.unread (taken ++ unread) → All (λ t. t.monomial ≡ x) taken → AllBelow s.division.ord x unread →
-    s.known ++ later ≡ quotient_list s.division → AllUnderFront s.division (Some front) later → length front ≡ s.division.n →
-    Below s.division.ord (front ⋅ lm (worker_rows s)) (x ⋅ lm s.division.g) →
+    s.known ++ later ≡ quotient_list s.division → length front ≡ s.division.n → IsBeyond s.division (worker_rows s) front later x →
     WorkerWhole (record s { unread = unread; kept = sum_at (coef s.division.p s.unread x) x })
 
 -- where it sends the term that it keeps, which may be sent

@@ -3,7 +3,7 @@
 //! A law is a function without argument or value: its contract is the law.
 #![tactic(auto)]
 
-ghost use Rattle.divide_wholes.specs.DivideLaws.{RowLaws, DivideStart, DivideTake, DivideFront, DivideZero, DivideFound, DivideKept, CandidateFinal, CandidateTerm, CandidateNone, BoundIsFront, FinishedIsRight, WorkerFinal, WorkerNext};
+ghost use Rattle.divide_wholes.specs.DivideLaws.{RowLaws, DivideStart, DivideTake, DivideFront, DivideZero, DivideFound, DivideKept, CandidateFinal, CandidateTerm, CandidateNone, BoundIsFront, FrontChoices, FinishedIsRight, LaterBelow, WorkerFinal, WorkerNext};
 ghost use Rattle.divide_wholes.specs.Workers.{MarkFollows, LatestMark, WorkerStart, WorkerLearn, WorkerHand, WorkerSend, WorkerMark};
 ghost use Rattle.divide_wholes.specs.MergeRow.{RowStart, RowFound, RowFronted, RowKept, RowChanged};
 
@@ -57,14 +57,24 @@ pub fn candidate_none()
     ensures { CandidateNone }
 {}
 
-/// No later quotient term is above a bound, so it may be published as a front.
+/// No later quotient term is above a bound, so a front may be published there, and as low as the multiples of the divisor's leading monomial allow.
 pub fn bound_is_front()
     ensures { BoundIsFront }
+{}
+
+/// What the front at a bound may be: the bound, the greatest multiple of the divisor's leading monomial at it or below, or any monomial where there is none.
+pub fn front_choices()
+    ensures { FrontChoices }
 {}
 
 /// A finished division has its quotient and its remainder.
 pub fn finished_is_right()
     ensures { FinishedIsRight }
+{}
+
+/// The quotient terms after one that is known are below it.
+pub fn later_below()
+    ensures { LaterBelow }
 {}
 
 /// What a dividing worker may send is settled by the quotient terms that it knows.
@@ -122,7 +132,7 @@ pub fn row_found()
     ensures { RowFound }
 {}
 
-/// A bound below the front may be published as a front, and then the row says it.
+/// A front at a bound may be published where it is below the present front, and then the row says it.
 pub fn row_front()
     ensures { RowFronted }
 {}

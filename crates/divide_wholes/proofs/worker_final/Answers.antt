@@ -1,4 +1,4 @@
-use Rattle.divide_wholes.proofs.Candidate.{worker_final}
+use Rattle.divide_wholes.proofs.WorkerLemmas.{worker_final}
 use Rattle.divide_wholes.proofs.worker_final.Goals as goal
 
 pub returns : goal.returns
