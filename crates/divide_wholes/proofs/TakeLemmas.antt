@@ -1,21 +1,19 @@
 -- A merge of a division stays whole when it takes a note, and when it publishes a front.
-use Rattle.std.proofs.Common.{◌≡◌, ℕ, zero, suc, ◌<◌, List, [], ◌∷◌, ◌++◌, length, set, get_or, Option, Some, None, ◌+ℤ◌, refl, sym, ap, ◌∙◌, subst, subst₂, arith, length-set}
+use Rattle.std.proofs.Common.{◌≡◌, ℕ, zero, suc, ◌<◌, List, [], ◌∷◌, ◌++◌, length, set, get_or, Option, Some, None, ◌+ℤ◌, sym, ap, ◌∙◌, subst, arith, length-set}
 use Rattle.std.proofs.lemmas.Int.{ints}
 use Rattle.sdmp_laws.specs.Order.{Order, Below}
 use Rattle.sdmp_laws.specs.Ring.{red}
 use Rattle.sdmp_laws.specs.Poly.{Term, total, Same, times, minus, AllBelow, sum_over}
 use Rattle.sdmp_laws.specs.LongDivision.{quotient_list}
 use Rattle.whole_laws.specs.Notes.{Note, TermNote, MarkNote, EndNote, after_lead, lead_term, Carry, owed}
-use Rattle.whole_laws.specs.Wholes.{head_terms, IsHead, notes_of, head_of_worker}
+use Rattle.whole_laws.specs.Wholes.{head_terms, notes_of, head_of_worker}
 use Rattle.divide_wholes.specs.Wholes.{DivideState, DivideWhole, divide_script, all_owed, IsPast, divide_take}
 use Rattle.divide_wholes.specs.DivideLaws.{DivideFront, DivideTake}
 use Rattle.sdmp_laws.proofs.OrderLemmas.{Three, is_less, is_equal, is_greater, numbers}
 use Rattle.sdmp_laws.proofs.PolyLemmas.{total_append, total_minus, same_total, from_total}
-use Rattle.sdmp_laws.proofs.TermsLemmas.{total_cons}
 use Rattle.divide_wholes.proofs.Candidate.{bound_is_front}
 use Rattle.whole_laws.proofs.OwedLemmas.{owed_laws}
-use Rattle.whole_laws.proofs.Sums.{sum_changed}
-use Rattle.whole_laws.proofs.StepLemmas.{head_set, notes_same, notes_other, head_same, head_other, last_head, each_worker, no_head}
+use Rattle.whole_laws.proofs.StepLemmas.{notes_same, notes_other, each_worker, Took, took_term, took_other, carried_after, sum_kept}
 use Rattle.sdmp_laws.proofs.ListLemmas.{AllBelow-front, AllBelow-back}
 use Rattle.divide_wholes.proofs.ProcessLemmas.{below_over}
 
@@ -45,24 +43,6 @@ divide_front s x y a whole b f = record {
 -- ---- taking a note
 in_range : (s : DivideState) (w : ℕ) → DivideWhole s → w < s.workers → w < length s.taken
 in_range s w whole h = omega (arith, h, whole.taken_count)
-
-in_heads : (s : DivideState) (w : ℕ) → DivideWhole s → w < s.workers → w < length s.heads
-in_heads s w whole h = omega (arith, h, whole.heads_count)
-
-carried_after : (s : DivideState) (w : ℕ) (n : List Note) → DivideWhole s → w < s.workers → Carry (divide_script s w) n → (v : ℕ) → v < s.workers → Carry (divide_script s v) (get_or (set s.taken w n) v [])
-unfolding notes_of
-carried_after s w n whole h c v l =
-    each_worker (λ v. Carry (divide_script s v) (get_or (set s.taken w n) v [])) w v
-    (subst (λ (x : List Note). Carry (divide_script s w) x) (sym (notes_same s.taken w n (in_range s w whole h))) c)
-    (λ k. subst (λ (x : List Note). Carry (divide_script s v) x) (sym (notes_other s.taken w v n k)) (whole.carried v l))
-
-owed_changed : (s : DivideState) (w : ℕ) (n : List Note) (x : List ℕ) → DivideWhole s → w < s.workers →
-    total (sum_over s.workers (λ v. owed (divide_script s v) (get_or (set s.taken w n) v []))) x +ℤ total (owed (divide_script s w) (get_or s.taken w [])) x
-    ≡ total (sum_over s.workers (λ v. owed (divide_script s v) (get_or s.taken v []))) x +ℤ total (owed (divide_script s w) n) x
-owed_changed s w n x whole h =
-    sum_changed x (λ v. owed (divide_script s v) (get_or (set s.taken w n) v [])) (λ v. owed (divide_script s v) (get_or s.taken v [])) s.workers w h
-    (λ v k. ap (λ (y : List Note). total (owed (divide_script s v) y) x) (notes_other s.taken w v n k))
-    ∙ ap (λ (y : List Note). total (sum_over s.workers (λ v. owed (divide_script s v) (get_or s.taken v []))) x +ℤ total (owed (divide_script s w) y) x) (notes_same s.taken w n (in_range s w whole h))
 
 rest_below : (ord : Order) (m : List ℕ) (t : Term) (A : List Term) → AllBelow ord m (t ∷ A) → AllBelow ord m A
 unfolding AllBelow
@@ -99,9 +79,6 @@ heads_still_below ord m (Some u ∷ heads) zero t b h = (b, h.1)
 heads_still_below ord m (None ∷ heads) (suc w) t b h = heads_still_below ord m heads w t b h
 heads_still_below ord m (Some u ∷ heads) (suc w) t b h = (h.0, heads_still_below ord m heads w t b h.1)
 
-heads_here : (s : DivideState) (w : ℕ) (o : Option Term) (n : List Note) → DivideWhole s → w < s.workers → IsHead o n → IsHead (get_or (set s.heads w o) w None) (get_or (set s.taken w n) w [])
-heads_here s w o n whole h k = subst₂ (λ (a : Option Term) (b : List Note). IsHead a b) (sym (head_same s.heads w o (in_heads s w whole h))) (sym (notes_same s.taken w n (in_range s w whole h))) k
-
 -- the sum: what moves from the owed terms to the heads stays in it
 sum_moved : (p : ℕ) (L Z H O H' O' : List Term) → ((x : List ℕ) → total H' x +ℤ total O' x ≡ total H x +ℤ total O x) → Same p (minus L (H ++ O)) Z → Same p (minus L (H' ++ O')) Z
 sum_moved p L Z H O H' O' e s =
@@ -109,11 +86,9 @@ sum_moved p L Z H O H' O' e s =
     ap (red p) (omega (arith, ints, total_minus L (H' ++ O') x, total_append H' O' x, e x, total_minus L (H ++ O) x, total_append H O x))
     ∙ same_total p (minus L (H ++ O)) Z s x)
 
--- the notes n of w leave the terms `new` in place of those owed
+-- the notes n of w and the heads keep below a monomial what stood there
 record Taken (s : DivideState) (w : ℕ) (n : List Note) (heads : List (Option Term)) : Type 0 where
-  moved : (x : List ℕ) → total (head_terms heads) x +ℤ total (owed (divide_script s w) n) x ≡ total (head_terms s.heads) x +ℤ total (owed (divide_script s w) (get_or s.taken w [])) x
-  count : length heads ≡ length s.heads
-  head : (v : ℕ) → v < s.workers → IsHead (get_or heads v None) (get_or (set s.taken w n) v [])
+  took : Took (divide_script s) s.workers s.heads s.taken w n heads
   owed_below : (m : List ℕ) → AllBelow s.division.ord m (owed (divide_script s w) (get_or s.taken w [])) → AllBelow s.division.ord m (owed (divide_script s w) n)
   heads_below : (m : List ℕ) → AllBelow s.division.ord m (head_terms s.heads) → AllBelow s.division.ord m (owed (divide_script s w) (get_or s.taken w [])) → AllBelow s.division.ord m (head_terms heads)
 
@@ -124,15 +99,15 @@ past_taken s w n heads (Some m) whole h k p =
     let old = parts_below s.division.ord m (λ v. owed (divide_script s v) (get_or s.taken v [])) s.workers p.2 w h in
     (p.0, k.heads_below m p.1 old, owed_still_below s w n m whole h (k.owed_below m old) p.2, p.3, p.4)
 
-taken_whole : (s : DivideState) (w : ℕ) (n : List Note) (heads : List (Option Term)) → DivideWhole s → w < s.workers → Carry (divide_script s w) n → Taken s w n heads → DivideWhole (record s { heads = heads; taken = set s.taken w n })
+taken_whole : (s : DivideState) (w : ℕ) (n : List Note) (heads : List (Option Term)) → DivideWhole s → w < s.workers → Taken s w n heads → DivideWhole (record s { heads = heads; taken = set s.taken w n })
 unfolding all_owed notes_of head_of_worker divide_script
-taken_whole s w n heads whole h c k = record {
-  heads_count = k.count ∙ whole.heads_count;
+taken_whole s w n heads whole h k = record {
+  heads_count = (k.took).count ∙ whole.heads_count;
   taken_count = length-set s.taken w n ∙ whole.taken_count;
-  carried = λ v l. carried_after s w n whole h c v l;
-  heads_are = k.head;
+  carried = carried_after (divide_script s) s.workers s.heads s.taken whole.heads_count whole.taken_count w n h (k.took).carried whole.carried;
+  heads_are = (k.took).heads_are;
   sum = sum_moved s.division.p (times s.q (lead_term s.division.g) ++ (s.r ++ s.unread)) (minus s.division.f (times (quotient_list s.division) (after_lead s.division.g))) (head_terms s.heads) (sum_over s.workers (λ v. owed (divide_script s v) (get_or s.taken v []))) (head_terms heads) (sum_over s.workers (λ v. owed (divide_script s v) (get_or (set s.taken w n) v [])))
-      (λ x. omega (arith, ints, k.moved x, owed_changed s w n x whole h)) whole.sum;
+      (λ x. sum_kept (divide_script s) s.workers s.heads s.taken whole.heads_count whole.taken_count w n heads x h k.took) whole.sum;
   quotient = whole.quotient;
   within = whole.within;
   unread_suffix = whole.unread_suffix;
@@ -149,31 +124,23 @@ term_taken s w t whole h none c =
     let n = get_or s.taken w [] ++ TermNote t ∷ [] in
     let o = (owed_laws (divide_script s w) (get_or s.taken w [])).0 t c in
     record {
-      moved = λ x. omega (arith, ints, head_set s.heads w t x (in_heads s w whole h) none, ap (λ (L : List Term). total L x) o, total_cons t (owed (divide_script s w) n) x);
-      count = length-set s.heads w (Some t);
-      head = λ v l. each_worker (λ v. IsHead (get_or (set s.heads w (Some t)) v None) (get_or (set s.taken w n) v [])) w v
-          (heads_here s w (Some t) n whole h (last_head (get_or s.taken w []) t))
-          (λ k. subst₂ (λ (o : Option Term) (y : List Note). IsHead o y) (sym (head_other s.heads w v (Some t) k)) (sym (notes_other s.taken w v n k)) (whole.heads_are v l));
+      took = took_term (divide_script s) s.workers s.heads s.taken whole.heads_count whole.taken_count w t h none whole.heads_are c;
       owed_below = λ m b. rest_below s.division.ord m t (owed (divide_script s w) n) (subst (λ (L : List Term). AllBelow s.division.ord m L) o b);
       heads_below = λ m b k. heads_still_below s.division.ord m s.heads w t (first_is_below s.division.ord m t (owed (divide_script s w) n) (subst (λ (L : List Term). AllBelow s.division.ord m L) o k)) b;
     }
 
-other_taken : (s : DivideState) (w : ℕ) (n : List Note) → DivideWhole s → w < s.workers → get_or s.heads w None ≡ None → owed (divide_script s w) n ≡ owed (divide_script s w) (get_or s.taken w []) → Taken s w n s.heads
+other_taken : (s : DivideState) (w : ℕ) (n : List Note) → DivideWhole s → get_or s.heads w None ≡ None → Carry (divide_script s w) n → owed (divide_script s w) n ≡ owed (divide_script s w) (get_or s.taken w []) → Taken s w n s.heads
 unfolding notes_of head_of_worker
-other_taken s w n whole h none e = record {
-  moved = λ x. ap (λ (L : List Term). total (head_terms s.heads) x +ℤ total L x) e;
-  count = refl;
-  head = λ v l. each_worker (λ v. IsHead (get_or s.heads v None) (get_or (set s.taken w n) v [])) w v
-      (subst (λ (o : Option Term). IsHead o (get_or (set s.taken w n) w [])) (sym none) (no_head (get_or (set s.taken w n) w [])))
-      (λ k. subst (λ (y : List Note). IsHead (get_or s.heads v None) y) (sym (notes_other s.taken w v n k)) (whole.heads_are v l));
+other_taken s w n whole none c e = record {
+  took = took_other (divide_script s) s.workers s.heads s.taken whole.heads_count whole.taken_count w n none whole.heads_are c e;
   owed_below = λ m b. subst (λ (L : List Term). AllBelow s.division.ord m L) (sym e) b;
   heads_below = λ m b k. b;
 }
 
 pub divide_take_law : DivideTake
 unfolding divide_take notes_of head_of_worker
-divide_take_law s w (TermNote t) whole h none c = taken_whole s w (get_or s.taken w [] ++ TermNote t ∷ []) (set s.heads w (Some t)) whole h c (term_taken s w t whole h none c)
+divide_take_law s w (TermNote t) whole h none c = taken_whole s w (get_or s.taken w [] ++ TermNote t ∷ []) (set s.heads w (Some t)) whole h (term_taken s w t whole h none c)
 divide_take_law s w (MarkNote k top) whole h none c =
-    taken_whole s w (get_or s.taken w [] ++ MarkNote k top ∷ []) s.heads whole h c (other_taken s w (get_or s.taken w [] ++ MarkNote k top ∷ []) whole h none ((owed_laws (divide_script s w) (get_or s.taken w [])).1 k top))
+    taken_whole s w (get_or s.taken w [] ++ MarkNote k top ∷ []) s.heads whole h (other_taken s w (get_or s.taken w [] ++ MarkNote k top ∷ []) whole none c ((owed_laws (divide_script s w) (get_or s.taken w [])).1 k top))
 divide_take_law s w EndNote whole h none c =
-    taken_whole s w (get_or s.taken w [] ++ EndNote ∷ []) s.heads whole h c (other_taken s w (get_or s.taken w [] ++ EndNote ∷ []) whole h none ((owed_laws (divide_script s w) (get_or s.taken w [])).2))
+    taken_whole s w (get_or s.taken w [] ++ EndNote ∷ []) s.heads whole h (other_taken s w (get_or s.taken w [] ++ EndNote ∷ []) whole none c ((owed_laws (divide_script s w) (get_or s.taken w [])).2))
