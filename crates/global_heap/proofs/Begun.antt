@@ -18,8 +18,8 @@ use Rattle.term_ring.specs.declared.ring.Reader.{Reader}
 use Rattle.global_heap.specs.declared.head.HeadOf.{HeadOf}
 use Rattle.global_heap.specs.declared.head.HeadOf.TheVariants as head
 use Rattle.global_heap.specs.Heads.{plain, plain_heads, HeadBelongs}
-use Rattle.global_heap.specs.Names.{first_product, HasScripts, IsFit, notes_count}
-use Rattle.global_heap.specs.Readers.{reader_name, IsReading}
+use Rattle.term_ring.specs.Names.{notes_count, reader_name, IsReading}
+use Rattle.global_heap.specs.Names.{first_product, HasScripts, IsFit}
 use Rattle.global_heap.specs.Inside.{reader_notes, merge_state, HeadFits, IsMerge}
 use Rattle.global_heap.proofs.Counts.{after_end}
 use Rattle.global_heap.proofs.Running.{no_head}

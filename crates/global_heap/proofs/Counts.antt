@@ -10,7 +10,8 @@ use Rattle.sdmp_laws.proofs.OrderLemmas.{Three, is_less, is_equal, is_greater, n
 use Rattle.whole_laws.specs.Notes.{Note, TermNote, MarkNote, EndNote, Product, Script, ProductScript, script_list, terms_in, NoEnd, MarkMayFollow, MayFollow, EndMayFollow, CarryAfter, Carry}
 use Rattle.whole_laws.specs.Wholes.{MergeState, MergeWhole, notes_of, merge_script}
 use Rattle.whole_laws.proofs.NotesLemmas.{Carry-prefix}
-use Rattle.global_heap.specs.Names.{IsFit, notes_count, notes_from, notes_total}
+use Rattle.term_ring.specs.Names.{notes_count}
+use Rattle.global_heap.specs.Names.{IsFit, notes_from, notes_total}
 
 -- ---- the length of a list of terms
 length-keep : (p : ℕ) (t : Term) (L : List Term) → length (keep p t L) ≤ length L + 1

@@ -19,7 +19,7 @@ use Rattle.global_heap.specs.declared.head.HeadOf.{HeadOf}
 use Rattle.global_heap.specs.declared.head.HeadOf.TheVariants as head
 use Rattle.global_heap.specs.Heads.{plain_heads, missing_at, HeadBelongs, IsTopSum}
 use Rattle.global_heap.specs.Names.{first_product}
-use Rattle.global_heap.specs.Readers.{reader_name}
+use Rattle.term_ring.specs.Names.{reader_name}
 use Rattle.global_heap.specs.Merges.{AllServed, Emits}
 use Rattle.global_heap.specs.Inside.{reader_notes, merge_state, merge_view, HeadFits, IsMerge}
 use Rattle.global_heap.proofs.HeadLemmas.{cleared_plain}

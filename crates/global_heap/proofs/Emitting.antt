@@ -7,7 +7,7 @@ use Rattle.whole_laws.specs.Notes.{Note, EndNote, NoEnd, has}
 use Rattle.whole_laws.specs.Wholes.{MergeState, head_terms, notes_of, head_of_worker, merge_emit, clear_at, IsReady, IsMergeCandidate}
 use Rattle.whole_laws.proofs.StepLemmas.{cleared}
 use Rattle.global_heap.specs.Heads.{IsTopSum}
-use Rattle.global_heap.specs.Names.{NoneBelow}
+use Rattle.term_ring.specs.Names.{NoneBelow}
 use Rattle.global_heap.specs.Merges.{MergeView, taken_of, IsWanting, IsServed, AllServed, Grows, Emits, IsSound}
 use Rattle.global_heap.proofs.Steps.{NoneBelow-refl}
 

@@ -12,7 +12,8 @@ use Rattle.term_ring.specs.declared.note.NoteOf.TheVariants.{Term, End}
 use Rattle.term_ring.specs.Carried.{Carries}
 use Rattle.term_ring.proofs.Carrying.{carries_whole}
 use Rattle.global_heap.specs.Examples.{squares}
-use Rattle.global_heap.specs.Names.{RingName, script_product, first_product, HasScripts, IsFit}
+use Rattle.term_ring.specs.Names.{RingName}
+use Rattle.global_heap.specs.Names.{script_product, first_product, HasScripts, IsFit}
 
 -- the second of the two workers sends x and -1
 second_rows : script_list (ProductScript squares 2 1) ≡ record { monomial = 1 ∷ []; coefficient = pos 1 } ∷ record { monomial = 0 ∷ []; coefficient = negsuc 0 } ∷ []

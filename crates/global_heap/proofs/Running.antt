@@ -6,7 +6,8 @@ use mathlib.Core.List.{IsPrefix}
 use Rattle.sdmp_laws.specs.Poly.{Term}
 use Rattle.whole_laws.specs.Notes.{Note, EndNote, NoEnd}
 use Rattle.whole_laws.specs.Wholes.{MergeState, head_terms, notes_of, head_of_worker}
-use Rattle.global_heap.specs.Names.{RingName, NoneBelow, notes_count, notes_total}
+use Rattle.term_ring.specs.Names.{RingName, NoneBelow, notes_count}
+use Rattle.global_heap.specs.Names.{notes_total}
 use Rattle.global_heap.specs.Merges.{MergeView, IsWanting, IsServed, AllServed, IsCause, Grows, Emits, IsSound, Fills}
 use Rattle.global_heap.specs.Reached.{merge_reached}
 use Rattle.global_heap.specs.declared.answer.Advance.TheVariants.{Done, NeedsRing, OutFull}

@@ -15,8 +15,8 @@ use Rattle.term_ring.specs.declared.ring.Reader.{Reader}
 use Rattle.global_heap.specs.declared.head.HeadOf.{HeadOf}
 use Rattle.global_heap.specs.declared.head.HeadOf.TheVariants as head
 use Rattle.global_heap.specs.Heads.{plain, plain_heads, is_missing, HeadBelongs}
-use Rattle.global_heap.specs.Names.{RingName, first_product, HasScripts, IsFit, notes_count}
-use Rattle.global_heap.specs.Readers.{reader_name, ring_name, IsReading}
+use Rattle.term_ring.specs.Names.{RingName, notes_count, reader_name, ring_name, IsReading}
+use Rattle.global_heap.specs.Names.{first_product, HasScripts, IsFit}
 use Rattle.global_heap.specs.Merges.{IsWanting, IsServed, IsSound}
 use Rattle.global_heap.specs.Inside.{reader_notes, merge_state, merge_view, HeadFits, IsMerge}
 use Rattle.global_heap.proofs.Steps.{count_one, taking, taken_here, taken_there}

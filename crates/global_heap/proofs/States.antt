@@ -14,7 +14,7 @@ use Rattle.term_ring.specs.declared.ring.Reader.{Reader}
 use Rattle.global_heap.specs.declared.head.HeadOf.{HeadOf}
 use Rattle.global_heap.specs.declared.head.HeadOf.TheVariants as head
 use Rattle.global_heap.specs.Heads.{plain, plain_heads}
-use Rattle.global_heap.specs.Readers.{reader_name}
+use Rattle.term_ring.specs.Names.{reader_name}
 use Rattle.global_heap.specs.Names.{first_product}
 use Rattle.global_heap.specs.Inside.{reader_notes, merge_state}
 

@@ -7,7 +7,7 @@ use Rattle.sdmp_laws.proofs.OrderLemmas.{Three, is_less, is_equal, is_greater, n
 use Rattle.whole_laws.specs.Notes.{Note, TermNote, MarkNote, EndNote, NoEnd}
 use Rattle.whole_laws.specs.Wholes.{MergeState, head_terms, notes_of, head_of_worker, merge_take}
 use Rattle.whole_laws.proofs.StepLemmas.{each_worker}
-use Rattle.global_heap.specs.Names.{NoneBelow, notes_count}
+use Rattle.term_ring.specs.Names.{NoneBelow, notes_count}
 use Rattle.global_heap.specs.Merges.{MergeView, taken_of, IsWanting, IsServed, IsStarved, FoundEmpty, Grows, TakesNote, Looks, IsSound, IsStarving, Fills}
 
 -- ---- lists of numbers

@@ -20,8 +20,8 @@ use Rattle.term_ring.specs.declared.ring.Reader.{Reader}
 use Rattle.global_heap.specs.declared.head.HeadOf.{HeadOf}
 use Rattle.global_heap.specs.declared.head.HeadOf.TheVariants as head
 use Rattle.global_heap.specs.Heads.{is_missing}
-use Rattle.global_heap.specs.Names.{RingName, first_product, notes_total}
-use Rattle.global_heap.specs.Readers.{reader_name, ring_name}
+use Rattle.term_ring.specs.Names.{RingName, reader_name, ring_name}
+use Rattle.global_heap.specs.Names.{first_product, notes_total}
 use Rattle.global_heap.specs.Merges.{IsWanting, IsStarved, Looks, TakesNote, NotMark}
 use Rattle.global_heap.specs.Inside.{reader_notes, merge_state, merge_view, IsMerge}
 use Rattle.global_heap.proofs.Steps.{count_one, taking}

@@ -9,8 +9,8 @@ use Rattle.term_ring.specs.Spelling.{notes_of}
 use Rattle.term_ring.specs.Ends.{taken, tail_seen, tail_loads}
 use Rattle.term_ring.specs.declared.ring.Reader.{Reader}
 use Rattle.global_heap.specs.Heads.{plain_heads, HeadBelongs}
-use Rattle.global_heap.specs.Readers.{reader_name, IsReading}
-use Rattle.global_heap.specs.Names.{first_product, HasScripts, IsFit, notes_count}
+use Rattle.term_ring.specs.Names.{reader_name, IsReading, notes_count}
+use Rattle.global_heap.specs.Names.{first_product, HasScripts, IsFit}
 use Rattle.global_heap.specs.Merges.{MergeView}
 use Rattle.global_heap.specs.declared.head.HeadOf.{HeadOf}
 use Rattle.global_heap.specs.declared.head.HeadOf.TheVariants as head

@@ -1,6 +1,5 @@
 pub mod Heads
 pub mod Names
-pub mod Readers
 pub mod Merges
 pub mod Inside
 pub mod Reached

@@ -4,7 +4,8 @@ use mathlib.Core.List.{IsPrefix}
 use Rattle.sdmp_laws.specs.Poly.{Term}
 use Rattle.whole_laws.specs.Notes.{Note, TermNote, MarkNote, EndNote, NoEnd, has}
 use Rattle.whole_laws.specs.Wholes.{MergeState, MergeWhole, IsMergeDone, merge_take, merge_emit, head_terms, notes_of, head_of_worker}
-use Rattle.global_heap.specs.Names.{RingName, first_product, HasScripts, IsFit, NoneBelow, notes_count}
+use Rattle.term_ring.specs.Names.{RingName, NoneBelow, notes_count}
+use Rattle.global_heap.specs.Names.{first_product, HasScripts, IsFit}
 use Rattle.global_heap.specs.declared.answer.Advance.{Advance}
 use Rattle.global_heap.specs.declared.answer.Advance.TheVariants.{Done, NeedsRing, OutFull}
 

@@ -1,16 +1,10 @@
 -- Which ring a merge reads, and which product it makes.
-use Rattle.std.specs.Prelude.{◌≡◌, ℕ, zero, suc, ◌+◌, ◌<◌, ◌≤◌, ◌^◌, List, [], ◌∷◌, length, slice_index_or, sum_by}
-use Rattle.atomic_table.specs.Seated.{TableId}
+use Rattle.std.specs.Prelude.{◌≡◌, ℕ, zero, suc, ◌+◌, ◌<◌, ◌^◌, List, [], ◌∷◌, length, slice_index_or}
 use Rattle.sdmp_laws.specs.Order.{Grlex}
 use Rattle.sdmp_laws.specs.Limits.{HasRoom}
 use Rattle.sdmp_laws.specs.Canonical.{IsCanonical}
-use Rattle.whole_laws.specs.Notes.{Note, Product, Script, ProductScript, QuotientScript, script_list}
-
--- a ring, by its table, its script and its number of places
-pub record RingName : Type 0 where
-  pub table : TableId
-  pub script : Script
-  pub places : ℕ
+use Rattle.whole_laws.specs.Notes.{Product, Script, ProductScript, QuotientScript, script_list}
+use Rattle.term_ring.specs.Names.{RingName}
 
 -- the product that a script is of
 abbrev pub script_product : Script → Product
@@ -33,15 +27,6 @@ pub record IsFit (lim : ℕ) (m : Product) : Type 0 where
   pub room : HasRoom lim m.p m.f m.g
   pub few_left : length m.f < 2 ^ 30
   pub few_right : length m.g < 2 ^ 30
-
--- no number of b is below that of a at the same place
-pub record NoneBelow (a b : List ℕ) : Type 0 where
-  pub long : length b ≡ length a
-  pub each : (k : ℕ) → slice_index_or a k 0 ≤ slice_index_or b k 0
-
--- how many notes the readers have taken
-abbrev pub notes_count : List (List Note) → ℕ
-notes_count taken = sum_by (λ notes. length notes) taken
 
 -- how many notes the workers from w on send, of whom there are k: the terms of their lists and an end each
 unfoldable pub notes_from : Product → ℕ → ℕ → ℕ → ℕ

@@ -1,7 +1,6 @@
 -- The name of a merge, and how far it has come.
 use Rattle.std.specs.Prelude.{ℕ, List, length, map}
-use Rattle.std.proofs.Common.{refl, le_refl}
-use Rattle.global_heap.specs.Names.{RingName, NoneBelow}
+use Rattle.term_ring.specs.Names.{RingName}
 use Rattle.global_heap.specs.Merges.{MergeView}
 
 -- its rings in order, whose scripts say which product it is of
@@ -11,6 +10,3 @@ merge_name v = v.rings
 -- how many notes each reader has taken
 abbrev pub merge_reached : MergeView → List ℕ
 merge_reached v = map (λ notes. length notes) v.state.taken
-
-pub NoneBelow-itself : (a : List ℕ) → NoneBelow a a
-NoneBelow-itself a = record { long = refl; each = λ k. le_refl _ }

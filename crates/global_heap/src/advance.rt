@@ -1,8 +1,7 @@
 //! How a merge advances.
 ghost use Rattle.std.specs.Prelude.{◌≡◌, ◌≢◌, ◌<◌, ℕ, [], map, slice_index_or, IsTrue, false};
 ghost use Rattle.whole_laws.specs.Wholes.{head_terms};
-ghost use Rattle.global_heap.specs.Names.{RingName, notes_count};
-ghost use Rattle.global_heap.specs.Readers.{ring_name};
+ghost use Rattle.term_ring.specs.Names.{RingName, notes_count, ring_name};
 ghost use Rattle.global_heap.specs.Merges.{IsWanting, IsServed, AllServed, IsStarved, IsCause, Grows, TakesNote, Looks, Emits, IsSound, Fills};
 
 use crate::answer::Advance;

@@ -5,10 +5,9 @@ ghost use Rattle.sdmp_laws.specs.Poly.{Term};
 ghost use Rattle.whole_laws.specs.Wholes.{MergeWhole};
 ghost use Rattle.term_ring.specs.Spelling.{notes_of};
 ghost use Rattle.term_ring.specs.Ends.{IsWriterOf, sent, head_seen};
-ghost use Rattle.global_heap.specs.Names.{RingName, NoneBelow, notes_count};
-ghost use Rattle.global_heap.specs.Readers.{ring_name};
+ghost use Rattle.term_ring.specs.Names.{RingName, NoneBelow, notes_count, ring_name, NoneBelow-itself};
 ghost use Rattle.global_heap.specs.Merges.{IsCause, IsSound, taken_of};
-ghost use Rattle.global_heap.specs.Reached.{merge_name, merge_reached, NoneBelow-itself};
+ghost use Rattle.global_heap.specs.Reached.{merge_name, merge_reached};
 
 use crate::answer::Advance;
 use crate::merge::Merge;
@@ -30,6 +29,8 @@ impl<R: CoeffRing, M: Monomial> Named for Merge<R, M> {
     ghost reached = { merge_reached };
 
     ghost follows = { NoneBelow };
+
+    ghost whole = { IsSound M.LIM };
 
     ghost follows_itself = { NoneBelow-itself };
 }

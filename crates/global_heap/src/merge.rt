@@ -3,8 +3,8 @@ ghost use Rattle.std.specs.Prelude.{◌≡◌, ◌<◌, ◌≤◌, ◌^◌, ◌�
 ghost use Rattle.sdmp_laws.specs.Poly.{terms, times};
 ghost use Rattle.whole_laws.specs.Wholes.{merge_start, IsMergeDone};
 ghost use Rattle.term_ring.specs.Ends.{taken, tail_seen, tail_loads};
-ghost use Rattle.global_heap.specs.Readers.{reader_name, IsReading};
-ghost use Rattle.global_heap.specs.Names.{first_product, HasScripts, IsFit, notes_count};
+ghost use Rattle.term_ring.specs.Names.{reader_name, IsReading, notes_count};
+ghost use Rattle.global_heap.specs.Names.{first_product, HasScripts, IsFit};
 
 use crate::heads::Heads;
 use canonical_terms::{Poly, Term};

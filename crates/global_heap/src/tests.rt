@@ -3,7 +3,7 @@ ghost use Rattle.sdmp_laws.specs.Limits.{greatest_norm};
 ghost use Rattle.whole_laws.specs.Notes.{ProductScript};
 ghost use Rattle.term_ring.specs.Carried.{Fits, Carries};
 ghost use Rattle.term_ring.specs.Ends.{IsWriterOf, IsReaderOf, script_in, sent, taken};
-ghost use Rattle.global_heap.specs.Readers.{ring_name};
+ghost use Rattle.term_ring.specs.Names.{ring_name};
 ghost use Rattle.global_heap.specs.Examples.{plus, squares};
 
 use super::*;

@@ -4,9 +4,9 @@ use Rattle.whole_laws.specs.Notes.{Product, ProductScript}
 use Rattle.term_ring.specs.Ends.{IsReaderOf}
 use Rattle.term_ring.specs.declared.ring.Ring.{Ring}
 use Rattle.term_ring.specs.declared.ring.Reader.{Reader}
-use Rattle.global_heap.specs.Names.{RingName, first_product, HasScripts, IsFit}
-use Rattle.global_heap.specs.Readers.{ring_name, reader_name}
-use Rattle.mul_workers.specs.Senders.{SenderView, Sends, IsAmong}
+use Rattle.term_ring.specs.Names.{RingName, ring_name, reader_name}
+use Rattle.global_heap.specs.Names.{first_product, HasScripts, IsFit}
+use Rattle.term_ring.specs.Sending.{SenderView, Sends, IsAmong}
 use Rattle.mul_workers.proofs.Hiring.{name_of_reader, readers_are, readers_scripts, readers_fit}
 
 one_script : (m : Product) (a : RingName) → a.script ≡ ProductScript m 1 0 → HasScripts m (a ∷ [])

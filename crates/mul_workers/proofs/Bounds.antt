@@ -2,12 +2,13 @@
 use Rattle.std.proofs.Common.{◌≡◌, ℕ, ◌<◌, ◌≤◌, ◌^◌, List, length, get_or, refl, sym, ap, ◌∙◌, subst, arith}
 use Rattle.whole_laws.specs.Notes.{Product}
 use Rattle.whole_laws.specs.Wholes.{MergeState, IsMergeDone, notes_of}
-use Rattle.global_heap.specs.Names.{RingName, first_product, notes_count, notes_total}
+use Rattle.term_ring.specs.Names.{RingName, notes_count}
+use Rattle.global_heap.specs.Names.{first_product, notes_total}
 use Rattle.global_heap.specs.Merges.{MergeView, IsSound}
 use Rattle.global_heap.specs.declared.answer.Advance.{Advance}
 use Rattle.global_heap.specs.declared.answer.Advance.TheVariants.{Done, NeedsRing, OutFull}
 use Rattle.global_heap.proofs.Counts.{count_within, count_all, few_notes}
-use Rattle.mul_workers.specs.Senders.{SenderView}
+use Rattle.term_ring.specs.Sending.{SenderView}
 use Rattle.mul_workers.specs.Rounds.{AreMembers, IsTeam, IsRound}
 
 -- that number as the merge sees it

@@ -15,11 +15,10 @@ use Rattle.term_ring.specs.Ends.{head_seen, head_loads, IsWriterOf, IsReaderOf}
 use Rattle.term_ring.specs.declared.ring.Ring.{Ring}
 use Rattle.term_ring.specs.declared.ring.Writer.{Writer}
 use Rattle.term_ring.specs.declared.ring.Reader.{Reader}
-use Rattle.global_heap.specs.Names.{RingName, script_product, first_product, HasScripts, IsFit, notes_total}
-use Rattle.global_heap.specs.Readers.{ring_name, reader_name}
+use Rattle.term_ring.specs.Names.{RingName, ring_name, reader_name, writer_name}
+use Rattle.global_heap.specs.Names.{script_product, first_product, HasScripts, IsFit, notes_total}
 use Rattle.global_heap.specs.Merges.{MergeView, IsSound}
-use Rattle.mul_workers.specs.Writers.{writer_name}
-use Rattle.mul_workers.specs.Senders.{SenderView}
+use Rattle.term_ring.specs.Sending.{SenderView}
 use Rattle.mul_workers.specs.Inside.{script_of_rows}
 use Rattle.mul_workers.specs.Rounds.{AreMembers, IsTeam}
 use Rattle.mul_workers.specs.Products.{product_of}

@@ -14,11 +14,10 @@ use Rattle.term_ring.specs.declared.note.NoteOf.{NoteOf}
 use Rattle.term_ring.specs.declared.note.NoteOf.TheVariants as note
 use Rattle.term_ring.specs.declared.ring.Ring.{Ring}
 use Rattle.term_ring.specs.declared.ring.Writer.{Writer}
-use Rattle.global_heap.specs.Readers.{ring_name}
+use Rattle.term_ring.specs.Names.{ring_name, writer_name, IsWriting}
 use Rattle.global_heap.proofs.Counts.{notes_within}
 use Rattle.global_heap.proofs.Sound.{NoEnd-more}
-use Rattle.mul_workers.specs.Writers.{writer_name, IsWriting}
-use Rattle.mul_workers.specs.Senders.{SenderView, sender_view, whole_script, Sends, ArePushed, is_end}
+use Rattle.term_ring.specs.Sending.{SenderView, sender_view, whole_script, Sends, ArePushed, is_end}
 use Rattle.mul_workers.specs.Inside.{script_of_rows, IsNextNote, IsUnsent, KeptBelongs, IsSender}
 
 -- ---- one note of a product's script

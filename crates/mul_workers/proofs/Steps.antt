@@ -10,9 +10,9 @@ use Rattle.turnstile.specs.Passes.{made_with, table_of, IsPassOf, IsOutside}
 use Rattle.turnstile.specs.declared.turn.Pass.{Pass}
 use Rattle.turnstile.specs.declared.turn.Turnstile.{Turnstile}
 use Rattle.whole_laws.specs.Wholes.{MergeState, notes_of}
-use Rattle.global_heap.specs.Names.{RingName, NoneBelow}
+use Rattle.term_ring.specs.Names.{RingName, NoneBelow}
 use Rattle.global_heap.specs.Merges.{MergeView}
-use Rattle.mul_workers.specs.Senders.{SenderView, IsAmong}
+use Rattle.term_ring.specs.Sending.{SenderView, IsAmong}
 use Rattle.mul_workers.specs.Workers.{HasPass}
 use Rattle.mul_workers.specs.Rounds.{IsMember, AreMembers, Moves, AllMove, Meets, AllMeet}
 use Rattle.mul_workers.proofs.Teams.{members_among}

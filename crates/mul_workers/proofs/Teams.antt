@@ -7,14 +7,14 @@ use mathlib.Core.List.{IsPrefix}
 use Rattle.sdmp_laws.specs.Poly.{Term}
 use Rattle.whole_laws.specs.Notes.{Note, TermNote, NoEnd, script_list}
 use Rattle.whole_laws.specs.Wholes.{MergeState, IsMergeDone, notes_of}
-use Rattle.global_heap.specs.Names.{RingName, NoneBelow, notes_count}
+use Rattle.term_ring.specs.Names.{RingName, NoneBelow, notes_count}
 use Rattle.global_heap.specs.Merges.{MergeView, taken_of, IsCause, IsSound}
 use Rattle.global_heap.specs.Reached.{merge_reached}
 use Rattle.global_heap.specs.declared.answer.Advance.{Advance}
 use Rattle.global_heap.specs.declared.answer.Advance.TheVariants.{Done, NeedsRing, OutFull}
 use Rattle.global_heap.proofs.Counts.{after_end, few_notes, count_within}
 use Rattle.global_heap.proofs.Steps.{NoneBelow-trans}
-use Rattle.mul_workers.specs.Senders.{SenderView, Sends, IsAmong, IsSentWhole, IsRefused}
+use Rattle.term_ring.specs.Sending.{SenderView, Sends, IsAmong, IsSentWhole, IsRefused}
 use Rattle.mul_workers.specs.Rounds.{IsMember, AreMembers, IsTeam, AllMove, AllMeet, HaveMet, IsSettledBy, IsRound}
 
 -- ---- how many notes are taken

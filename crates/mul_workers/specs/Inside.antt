@@ -8,8 +8,8 @@ use Rattle.term_ring.specs.Spelling.{Belongs, note_of, notes_of}
 use Rattle.term_ring.specs.Ends.{sent}
 use Rattle.term_ring.specs.declared.note.NoteOf.{NoteOf}
 use Rattle.term_ring.specs.declared.ring.Writer.{Writer}
-use Rattle.mul_workers.specs.Writers.{writer_name, IsWriting}
-use Rattle.mul_workers.specs.Senders.{whole_script}
+use Rattle.term_ring.specs.Names.{writer_name, IsWriting}
+use Rattle.term_ring.specs.Sending.{whole_script}
 
 -- what the worker of these rows is to send
 abbrev pub script_of_rows : Order → ℕ → Remaining → Script

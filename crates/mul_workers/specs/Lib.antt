@@ -1,5 +1,3 @@
-pub mod Writers
-pub mod Senders
 pub mod Inside
 pub mod Workers
 pub mod Rounds

@@ -2,11 +2,11 @@
 use Rattle.std.specs.Prelude.{◌≡◌, ℕ, ◌<◌, ◌≤◌, ◌⊎◌, List, length, slice_index_or}
 use Rattle.whole_laws.specs.Notes.{NoEnd}
 use Rattle.whole_laws.specs.Wholes.{IsMergeDone}
-use Rattle.global_heap.specs.Names.{RingName, notes_count}
+use Rattle.term_ring.specs.Names.{RingName, notes_count}
 use Rattle.global_heap.specs.Merges.{MergeView, taken_of}
 use Rattle.global_heap.specs.declared.answer.Advance.{Advance}
 use Rattle.global_heap.specs.declared.answer.Advance.TheVariants.{Done, NeedsRing, OutFull}
-use Rattle.mul_workers.specs.Senders.{SenderView, IsSentWhole, IsRefused, Sends, HasMet}
+use Rattle.term_ring.specs.Sending.{SenderView, IsSentWhole, IsRefused, Sends, HasMet}
 
 -- the sender has the number k, its ring is the k-th with these names, and has a place
 pub record IsMember (names : List RingName) (k : ℕ) (s : SenderView) : Type 0 where
@@ -38,7 +38,7 @@ pub record AllMove (a b : List SenderView) : Type 0 where
 pub record Meets (m : MergeView) (a b : SenderView) : Type 0 where
   pub sends : Sends a b
   pub same : b.sent ≡ a.sent
-  pub met : HasMet m b
+  pub met : HasMet m.state.taken m.tails b
 
 pub record AllMeet (m : MergeView) (a b : List SenderView) : Type 0 where
   pub long : length b ≡ length a
@@ -46,7 +46,7 @@ pub record AllMeet (m : MergeView) (a b : List SenderView) : Type 0 where
 
 -- each worker's writer and the merge's reader of its ring have met
 abbrev pub HaveMet : MergeView → List SenderView → Type 0
-HaveMet m team = (k : ℕ) (d : SenderView) → k < length team → HasMet m (slice_index_or team k d)
+HaveMet m team = (k : ℕ) (d : SenderView) → k < length team → HasMet m.state.taken m.tails (slice_index_or team k d)
 
 -- what is known where the merge answers after a meeting: it is done, or all that a worker with no end among it has sent is taken, or notes were taken
 abbrev pub IsSettledBy : MergeView → List SenderView → MergeView → Advance → Type 0

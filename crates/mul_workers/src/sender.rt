@@ -4,10 +4,8 @@ ghost use Rattle.sdmp_laws.specs.Poly.{Term};
 ghost use Rattle.whole_laws.specs.Notes.{NoEnd, Carry, script_list};
 ghost use Rattle.term_ring.specs.Spelling.{Belongs, note_of};
 ghost use Rattle.term_ring.specs.Ends.{sent, head_seen, head_loads};
-ghost use Rattle.global_heap.specs.Names.{RingName, NoneBelow};
-ghost use Rattle.global_heap.specs.Readers.{ring_name};
-ghost use Rattle.mul_workers.specs.Writers.{writer_name, IsWriting};
-ghost use Rattle.mul_workers.specs.Senders.{IsSentWhole, IsRefused, Sends, ArePushed, WasRefused, HasMet, is_end};
+ghost use Rattle.term_ring.specs.Names.{RingName, NoneBelow, ring_name, writer_name, IsWriting};
+ghost use Rattle.term_ring.specs.Sending.{IsSentWhole, IsRefused, Sends, ArePushed, WasRefused, HasMet, is_end};
 ghost use Rattle.mul_workers.specs.Inside.{script_of_rows, IsNextNote, IsUnsent, KeptBelongs};
 
 use coeff_ring::CoeffRing;
@@ -31,7 +29,7 @@ pub struct Sender<'a, R: CoeffRing, M: Monomial> {
 }
 
 impl<'a, R: CoeffRing, M: Monomial> Model for Sender<'a, R, M> {
-    ghost use Rattle.mul_workers.specs.Senders.{SenderView, sender_view};
+    ghost use Rattle.term_ring.specs.Sending.{SenderView, sender_view};
     ghost use Rattle.mul_workers.specs.Inside.{IsSender};
 
     ghost Value = { SenderView };
@@ -161,7 +159,7 @@ impl<'a, R: CoeffRing, M: Monomial> Sender<'a, R, M> {
         ensures rings { merge.new.rings ≡ merge.old.rings }
         ensures spare { merge.new.spare ≡ merge.old.spare }
         ensures tails { NoneBelow merge.old.tails merge.new.tails }
-        ensures met { HasMet merge.new self.new }
+        ensures met { HasMet merge.new.state.taken merge.new.tails self.new }
     {
         merge.meet(ring, self.worker, &mut self.writer);
     }

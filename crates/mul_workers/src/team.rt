@@ -4,7 +4,7 @@ ghost use Rattle.sdmp_laws.specs.Limits.{HasRoom};
 ghost use Rattle.whole_laws.specs.Notes.{ProductScript};
 ghost use Rattle.term_ring.specs.Ends.{IsReaderOf, script_in, places_of, taken};
 ghost use Rattle.global_heap.specs.Names.{HasScripts};
-ghost use Rattle.global_heap.specs.Readers.{ring_name, reader_name, IsReading};
+ghost use Rattle.term_ring.specs.Names.{ring_name, reader_name, IsReading};
 ghost use Rattle.mul_workers.specs.Rounds.{AreMembers};
 ghost use Rattle.mul_workers.specs.Products.{product_of};
 
@@ -50,7 +50,11 @@ fn hire<'a, R: CoeffRing, M: Monomial>(
     };
     let (ring, writer, reader) = Ring::new(alloc, set.f.ring(), places, &script)?;
     let rows = RowMerge::new(alloc, set)?;
-    Ok((ring, reader, MulWorker::without_pass(worker, rows, writer)))
+    Ok((
+        ring,
+        reader,
+        MulWorker::without_pass(worker, rows, writer, places),
+    ))
 }
 
 impl<'a, R: CoeffRing, M: Monomial> Team<'a, R, M> {

@@ -1,5 +1,5 @@
 -- Each step keeps the rule of the ring.
-use Rattle.std.proofs.Common.{◌≡◌, ◌≢◌, ℕ, zero, suc, ◌+◌, ◌-◌, ◌*◌, ◌%◌, ◌^◌, ◌<◌, ◌≤◌, List, [], ◌∷◌, ◌++◌, length, get_or, set, sym, refl, ap, ◌∙◌, subst, ⊎_elim, arith, Some, le_refl, length-set, length-append, get_or-set_other, get_or-set_same, append_assoc, append-nil}
+use Rattle.std.proofs.Common.{◌≡◌, ◌≢◌, ℕ, zero, suc, ◌+◌, ◌-◌, ◌*◌, ◌%◌, ◌^◌, ◌<◌, ◌≤◌, List, [], ◌∷◌, ◌++◌, length, get_or, set, sym, refl, ap, ◌∙◌, subst, ⊎_elim, inl, inr, arith, Some, le_refl, length-set, length-append, get_or-set_other, get_or-set_same, append_assoc, append-nil}
 use mathlib.Core.List.{IsPrefix}
 use mathlib.Core.Logic.{dite}
 use mathlib.Core.Option.{none, some, some-injective, some-ne-none}
@@ -11,7 +11,7 @@ use Rattle.atomic_table.proofs.Lists.{at_set, one_turn}
 use Rattle.term_ring.specs.declared.view.View.{View}
 use Rattle.term_ring.specs.declared.view.Kind.{Kind}
 use Rattle.term_ring.specs.declared.view.Kind.TheVariants.{Spent, First, Writing, Reading, SentCopy, TakenCopy}
-use Rattle.term_ring.specs.Rule.{place, WriterKnows, ReaderKnows, FirstKnows, KnowsAs, Knows, IsRing}
+use Rattle.term_ring.specs.Rule.{place, words_of_ring, LeavesNoRoom, RisesWhere, WriterKnows, ReaderKnows, FirstKnows, KnowsAs, Knows, IsRing}
 use Rattle.term_ring.specs.Steps.{first, spent, writing, reading, copy_of, copied, told, LooksAtHead, Puts, Sends, LooksAtTail, Peeks, Takes}
 use Rattle.term_ring.proofs.Lists.{prefix_self, prefix_trans, prefix_more, prefix_length, both_begin, at_snoc, first_of_longer, first_there, within, index_snoc_before, index_snoc_last, same_list, apart, place_below, place_above}
 
@@ -63,6 +63,20 @@ module _ {N C : Type 0} (words : N → List ℕ) (script : C) (places : ℕ) whe
   seats_stay : (K : ℕ → V → Type 0) (vs : List V) (me : ℕ) (w : V) → K me w → ((j : ℕ) (v : V) → j ≢ me → get_elem? vs j ≡ some v → K j v) → (j : ℕ) (v : V) → get_elem? (set vs me w) j ≡ some v → K j v
   seats_stay K vs me w mine others j v e = ⊎_elim (λ (t : (j ≡ me) × (w ≡ v)). subst (λ (x : ℕ × V). K x.0 x.1) (λ i. (sym t.0 i, t.1 i)) mine)
       (λ (t : (j ≢ me) × (get_elem? vs j ≡ some v)). others j v t.0 t.1) (at_set vs me j w v e)
+
+-- the count of looks in vain, where the head is so
+counts_room : (head places sent vain : ℕ) → (after : ℕ) × RisesWhere (LeavesNoRoom head places sent) vain after
+counts_room head places sent vain = dite (ℕ_discrete (head + places) sent)
+    (λ full. (vain + 1, record { raised = λ _. refl; stays = λ no. absurd (no (inl full)) }))
+    (λ room. dite (ℕ_discrete sent (2 ^ 63))
+    (λ many. (vain + 1, record { raised = λ _. refl; stays = λ no. absurd (no (inr many)) }))
+    (λ few. (vain, record { raised = λ h. absurd (⊎_elim room few h); stays = λ _. refl })))
+
+-- and where the tail is so
+counts_none : (tail taken vain : ℕ) → (after : ℕ) × RisesWhere (tail ≡ taken) vain after
+counts_none tail taken vain = dite (ℕ_discrete tail taken)
+    (λ none. (vain + 1, record { raised = λ _. refl; stays = λ no. absurd (no none) }))
+    (λ more. (vain, record { raised = λ h. absurd (more h); stays = λ _. refl }))
 
 -- the table has no slots
 abbrev S : Type 0
@@ -122,7 +136,7 @@ module _ {N C : Type 0} (words : N → List ℕ) (fits : C → N → Type 0) (ca
   looks_head slots id m is s r _ at _ =
       let p : WriterKnows script places r.taken r.inside r.stored r.parted r.writer id m.0 = knows s r id m.0 Writing at is in
       let h : ℕ = get_or s.words 0 0 in let hi : h ≡ length r.taken = r.head_is in
-      let w : View' = record m.0 { seen = h; loads = m.0.loads + 1 } in
+      let counted = counts_room h m.0.places (length m.0.notes) m.0.vain in let w : View' = record m.0 { seen = h; vain = counted.0 } in
       let all : length m.0.notes ≡ length r.taken + length r.inside = ap length p.all ∙ sent_length s r in
       let saw = p.saw in let room = r.room in let sized = p.sized in let heard = prefix_length m.0.told r.taken p.heard in
       let mine : WriterKnows script places r.taken r.inside r.stored r.parted r.writer id w = record {
@@ -139,7 +153,7 @@ module _ {N C : Type 0} (words : N → List ℕ) (fits : C → N → Type 0) (ca
         keeps,
         tt,
         unmoved s r 0 id m.1 w (subst (SaysAs s r id w) (sym is) mine),
-        (refl, omega arith, omega arith, omega arith, omega arith, subst (IsPrefix m.0.told) (sym p.all) (prefix_trans m.0.told r.taken (r.taken ++ r.inside) p.heard (prefix_more r.taken r.inside))),
+        (refl, counted.1, omega arith, omega arith, omega arith, omega arith, subst (IsPrefix m.0.told) (sym p.all) (prefix_trans m.0.told r.taken (r.taken ++ r.inside) p.heard (prefix_more r.taken r.inside))),
       )
 
   -- the writer knows the words `now` of its next place, the last of which is written there
@@ -152,7 +166,7 @@ module _ {N C : Type 0} (words : N → List ℕ) (fits : C → N → Type 0) (ca
       let saw = p.saw in let sized = p.sized in let wide = r.wide in let some_place = r.some_place in
       let kept : length r.stored ≡ length m.0.words = ap length (sym p.wrote) in
       let at_here : i ≡ place places (length r.taken + length r.inside) k = here ∙ (λ j. place (sized j) (all j) k) in
-      let low : 2 ≤ i = subst (λ (z : ℕ). 2 ≤ z) (sym at_here) (place_above places (length r.taken + length r.inside) k) in
+      let low : 32 ≤ i = subst (λ (z : ℕ). 32 ≤ z) (sym at_here) (place_above places (length r.taken + length r.inside) k) in
       let high : i < length s.words = subst (λ (z : ℕ). z < length s.words) (sym at_here) (subst (λ (z : ℕ). place places (length r.taken + length r.inside) k < z) (sym wide) (place_below places (length r.taken + length r.inside) k some_place few)) in
       let fewer : length r.inside < places = omega arith in
       let mine : WriterKnows script places r.taken r.inside now r.parted r.writer id w = record {
@@ -174,7 +188,7 @@ module _ {N C : Type 0} (words : N → List ℕ) (fits : C → N → Type 0) (ca
         some_place = r.some_place;
         wide = length-set s.words i b ∙ r.wide;
         head_is = get_or-set_other s.words i 0 b 0 (λ e. omega arith) ∙ r.head_is;
-        tail_is = get_or-set_other s.words i 1 b 0 (λ e. omega arith) ∙ r.tail_is;
+        tail_is = get_or-set_other s.words i 16 b 0 (λ e. omega arith) ∙ r.tail_is;
         room = r.room;
         few = r.few;
         carried = r.carried;
@@ -189,7 +203,7 @@ module _ {N C : Type 0} (words : N → List ℕ) (fits : C → N → Type 0) (ca
             (λ e. ap (λ (z : ℕ). get_or (set s.words i b) z 0) (ap (place places (length r.taken + length r.inside)) e ∙ sym at_here) ∙ (get_or-set_same s.words i b 0 high ∙ (sym last ∙ ap (λ (z : ℕ). get_or now z 0) (sym e))))
             (λ ne. let first : c < k = omega arith in
             get_or-set_other s.words i (place places (length r.taken + length r.inside) c) b 0
-            (λ same. let x : ℕ = (length r.taken + length r.inside) % places in let same' : 2 + 5 * x + c ≡ 2 + 5 * x + k = same ∙ at_here in ne (omega arith))
+            (λ same. let x : ℕ = (length r.taken + length r.inside) % places in let same' : 32 + 5 * x + c ≡ 32 + 5 * x + k = same ∙ at_here in ne (omega arith))
             ∙ (r.next c (omega arith) ∙ (ap (λ l. get_or l c 0) (sym p.wrote) ∙ sym (before c first))));
         each_seat = seats_stay words script places (Knows words script places r.taken r.inside now r.parted r.writer r.reader) s.views id w (subst (KnowsAs words script places r.taken r.inside now r.parted r.writer r.reader id w) (sym is) mine)
             (λ j v other e. beside_writer words script places r.taken r.inside r.inside r.stored now r.parted r.writer r.reader j (λ same. other (same ∙ sym p.mine)) (prefix_self (r.taken ++ r.inside)) (le_refl _) p.begun (λ n first _. first) v v.kind
@@ -221,7 +235,7 @@ module _ {N C : Type 0} (words : N → List ℕ) (fits : C → N → Type 0) (ca
       )
 
   pub posts : (slots id : ℕ) (m : M) (n : N) (new : ℕ) → m.0.kind ≡ Writing → words n ≡ m.0.words → length m.0.words ≡ 5 → m.0.script ≡ Some script → fits script n → carry script (m.0.notes ++ n ∷ [])
-      → new ≡ length m.0.notes + 1 → new ≤ 2 ^ 63 → Allows Rule slots id m 1 (λ _. new) (λ _. Sends words fits (step slots 1 new 0 none) m new)
+      → new ≡ length m.0.notes + 1 → new ≤ 2 ^ 63 → Allows Rule slots id m 16 (λ _. new) (λ _. Sends words fits (step slots 16 new 0 none) m new)
   posts slots id m n new is spell long scripted fit carried up enough s r _ at _ =
       let p : WriterKnows script places r.taken r.inside r.stored r.parted r.writer id m.0 = knows s r id m.0 Writing at is in
       let w : View' = record m.0 { notes = m.0.notes ++ n ∷ []; words = [] } in let now : List N = r.inside ++ n ∷ [] in
@@ -253,14 +267,14 @@ module _ {N C : Type 0} (words : N → List ℕ) (fits : C → N → Type 0) (ca
           writer = r.writer;
           reader = r.reader;
           some_place = r.some_place;
-          wide = length-set s.words 1 new ∙ r.wide;
-          head_is = get_or-set_other s.words 1 0 new 0 (λ e. omega arith) ∙ r.head_is;
-          tail_is = get_or-set_same s.words 1 new 0 (omega arith) ∙ omega arith;
+          wide = length-set s.words 16 new ∙ r.wide;
+          head_is = get_or-set_other s.words 16 0 new 0 (λ e. omega arith) ∙ r.head_is;
+          tail_is = get_or-set_same s.words 16 new 0 (omega arith) ∙ omega arith;
           room = omega arith;
           few = omega arith;
           carried = subst (carry script) regroup carried;
           good = λ j x e. ⊎_elim (λ (t : get_elem? r.inside j ≡ some x). r.good j x t) (λ (t : (j ≡ length r.inside) × (n ≡ x)). subst (λ (y : N). fits script y × (length (words y) ≡ 5)) t.1 (fit, five)) (at_snoc r.inside n x j e);
-          spelt = λ j x e c l. get_or-set_other s.words 1 (place places (length r.taken + j) c) new 0 (λ same. let a = place_above places (length r.taken + j) c in omega arith)
+          spelt = λ j x e c l. get_or-set_other s.words 16 (place places (length r.taken + j) c) new 0 (λ same. let a = place_above places (length r.taken + j) c in omega arith)
               ∙ ⊎_elim (λ (t : get_elem? r.inside j ≡ some x). r.spelt j x t c l)
               (λ (t : (j ≡ length r.inside) × (n ≡ x)). ap (λ (z : ℕ). get_or s.words (place places (length r.taken + z) c) 0) t.0 ∙ (r.next c (omega arith) ∙ ap (λ z. get_or z c 0) (sym p.wrote ∙ (sym spell ∙ ap words t.1))))
               (at_snoc r.inside n x j e);
@@ -274,11 +288,11 @@ module _ {N C : Type 0} (words : N → List ℕ) (fits : C → N → Type 0) (ca
         (n, (script, scripted, fit), spell, refl),
       )
 
-  pub looks_tail : (slots id : ℕ) (m : M) → m.0.kind ≡ Reading → Allows Rule slots id m 1 (λ x. x) (LooksAtTail (step slots 1 0 0 none) m)
+  pub looks_tail : (slots id : ℕ) (m : M) → m.0.kind ≡ Reading → Allows Rule slots id m 16 (λ x. x) (LooksAtTail (step slots 16 0 0 none) m)
   looks_tail slots id m is s r _ at _ =
       let p : ReaderKnows words script places r.taken r.inside r.parted r.reader id m.0 = knows s r id m.0 Reading at is in
-      let h : ℕ = get_or s.words 1 0 in let hi : h ≡ length r.taken + length r.inside = r.tail_is in
-      let w : View' = record m.0 { seen = h; loads = m.0.loads + 1 } in
+      let h : ℕ = get_or s.words 16 0 in let hi : h ≡ length r.taken + length r.inside = r.tail_is in
+      let counted = counts_none h (length m.0.notes) m.0.vain in let w : View' = record m.0 { seen = h; vain = counted.0 } in
       let all : length m.0.notes ≡ length r.taken = ap length p.all in
       let saw = p.saw in let room = r.room in let sized = p.sized in
       let heard : length m.0.told ≤ length r.taken + length r.inside = subst (λ (z : ℕ). length m.0.told ≤ z) (sent_length s r) (prefix_length m.0.told (r.taken ++ r.inside) p.heard) in
@@ -297,8 +311,8 @@ module _ {N C : Type 0} (words : N → List ℕ) (fits : C → N → Type 0) (ca
         w,
         keeps,
         tt,
-        unmoved s r 1 id m.1 w (subst (SaysAs s r id w) (sym is) mine),
-        (refl, omega arith, omega arith, omega arith, omega (arith, r.few), omega arith, both_begin m.0.notes m.0.told (r.taken ++ r.inside) (r.inside, ap (λ l. l ++ r.inside) p.all) p.heard),
+        unmoved s r 16 id m.1 w (subst (SaysAs s r id w) (sym is) mine),
+        (refl, counted.1, omega arith, omega arith, omega arith, omega (arith, r.few), omega arith, both_begin m.0.notes m.0.told (r.taken ++ r.inside) (r.inside, ap (λ l. l ++ r.inside) p.all) p.heard),
       )
 
   -- the next note, where the reader has seen that there is one
@@ -379,7 +393,7 @@ module _ {N C : Type 0} (words : N → List ℕ) (fits : C → N → Type 0) (ca
           some_place = r.some_place;
           wide = length-set s.words 0 new ∙ r.wide;
           head_is = get_or-set_same s.words 0 new 0 (omega arith) ∙ omega arith;
-          tail_is = get_or-set_other s.words 0 1 new 0 (λ e. omega arith) ∙ (r.tail_is ∙ omega arith);
+          tail_is = get_or-set_other s.words 0 16 new 0 (λ e. omega arith) ∙ (r.tail_is ∙ omega arith);
           room = omega arith;
           few = omega (arith, r.few);
           carried = subst (carry script) same r.carried;
@@ -403,7 +417,7 @@ module _ {N C : Type 0} (words : N → List ℕ) (fits : C → N → Type 0) (ca
         ),
       )
 
-  pub starts : (ws : List ℕ) → 0 < places → length ws ≡ 2 + 5 * places → ((i : ℕ) → get_or ws i 0 ≡ 0) → carry script [] → Rule (opening ws [] (first script places))
+  pub starts : (ws : List ℕ) → 0 < places → length ws ≡ words_of_ring places → ((i : ℕ) → get_or ws i 0 ≡ 0) → carry script [] → Rule (opening ws [] (first script places))
   starts ws some_place wide blank carried = record {
     taken = [];
     inside = [];
@@ -414,7 +428,7 @@ module _ {N C : Type 0} (words : N → List ℕ) (fits : C → N → Type 0) (ca
     some_place = some_place;
     wide = wide;
     head_is = blank 0;
-    tail_is = blank 1;
+    tail_is = blank 16;
     room = omega arith;
     few = omega arith;
     carried = carried;

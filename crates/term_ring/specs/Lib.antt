@@ -1,8 +1,10 @@
 pub mod Carried
 pub mod Ends
 pub mod Moments
+pub mod Names
 pub mod Plain
 pub mod Rule
 pub mod Scripts
+pub mod Sending
 pub mod Spelling
 pub mod Steps

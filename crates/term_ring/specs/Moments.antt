@@ -6,7 +6,7 @@ use lib.ListN.{get_elem?}
 use Rattle.atomic_table.specs.Table.{State}
 use Rattle.term_ring.specs.declared.view.View.{View}
 use Rattle.term_ring.specs.declared.view.Kind.TheVariants.{Writing, Reading, SentCopy, TakenCopy}
-use Rattle.term_ring.specs.Rule.{place, IsRing}
+use Rattle.term_ring.specs.Rule.{head_word, tail_word, place, IsRing}
 
 module _ {N C : Type 0} (words : N → List ℕ) (carry : C → List N → Type 0) (script : C) (places : ℕ) (s : State (Unit {0}) (View N C)) where
   -- of the words, of the writer's view w and of the reader's view r
@@ -18,10 +18,10 @@ module _ {N C : Type 0} (words : N → List ℕ) (carry : C → List N → Type 
     pub room : length inside ≤ places
     -- the five words of each note inside spell it
     pub spelt : (i : ℕ) (n : N) → get_elem? inside i ≡ some n → (k : ℕ) → k < 5 → slice_index s.words (place places (length r.notes + i) k) ≡ slice_index (words n) k
-    pub head : slice_index s.words 0 ≡ length r.notes
-    pub tail : slice_index s.words 1 ≡ length w.notes
-    pub head_seen : w.seen ≤ slice_index s.words 0
-    pub tail_seen : r.seen ≤ slice_index s.words 1
+    pub head : slice_index s.words head_word ≡ length r.notes
+    pub tail : slice_index s.words tail_word ≡ length w.notes
+    pub head_seen : w.seen ≤ slice_index s.words head_word
+    pub tail_seen : r.seen ≤ slice_index s.words tail_word
     -- the words that the writer knows or has stored are the first in the place of its next note, which holds no note inside
     pub stored : (k : ℕ) → k < length w.words → slice_index s.words (place places (length w.notes) k) ≡ slice_index w.words k
     pub stored_apart : 0 < length w.words → length inside < places

@@ -12,9 +12,29 @@ use Rattle.term_ring.specs.declared.view.Kind.TheVariants.{Spent, First, Writing
 abbrev pub Comparable : {N : Type 0} → List N → List N → Type 0
 Comparable xs ys = IsPrefix xs ys ⊎ IsPrefix ys xs
 
+-- where the head and the tail stand
+abbrev pub head_word : ℕ
+head_word = 0
+
+abbrev pub tail_word : ℕ
+tail_word = 16
+
+-- how many words a ring of so many places has
+abbrev pub words_of_ring : ℕ → ℕ
+words_of_ring places = 32 + 5 * places
+
 -- where the word k of the note with the number i stands
 abbrev pub place : ℕ → ℕ → ℕ → ℕ
-place places i k = 2 + 5 * (i % places) + k
+place places i k = 32 + 5 * (i % places) + k
+
+-- after so many notes this head leaves no room for a next one: each place holds a note, or 2^63 notes were sent
+abbrev pub LeavesNoRoom : ℕ → ℕ → ℕ → Type 0
+LeavesNoRoom head places sent = (head + places ≡ sent) ⊎ (sent ≡ 2 ^ 63)
+
+-- a count goes up by one where P holds, and stays where it doesn't
+pub record RisesWhere (P : Type 0) (before after : ℕ) : Type 0 where
+  pub raised : P → after ≡ before + 1
+  pub stays : ¬ P → after ≡ before
 
 -- what the writer knows, where these notes were taken, these are inside and these words begin the next place
 pub record WriterKnows {N C : Type 0} (script : C) (places : ℕ) (taken inside : List N) (stored : List ℕ) (parted writer seat : ℕ) (v : View N C) : Type 0 where
@@ -78,9 +98,9 @@ pub record IsRing {S N C : Type 0} (words : N → List ℕ) (fits : C → N → 
   pub writer : ℕ
   pub reader : ℕ
   pub some_place : 0 < places
-  pub wide : length s.words ≡ 2 + 5 * places
-  pub head_is : slice_index s.words 0 ≡ length taken
-  pub tail_is : slice_index s.words 1 ≡ length taken + length inside
+  pub wide : length s.words ≡ words_of_ring places
+  pub head_is : slice_index s.words head_word ≡ length taken
+  pub tail_is : slice_index s.words tail_word ≡ length taken + length inside
   pub room : length inside ≤ places
   pub few : length taken + length inside ≤ 2 ^ 63
   pub carried : carry script (taken ++ inside)

@@ -5,7 +5,7 @@ use Rattle.atomic_table.specs.Table.{Me, Step}
 use Rattle.term_ring.specs.declared.view.View.{View}
 use Rattle.term_ring.specs.declared.view.Kind.{Kind}
 use Rattle.term_ring.specs.declared.view.Kind.TheVariants.{Spent, First, Writing, Reading, SentCopy, TakenCopy}
-use Rattle.term_ring.specs.Rule.{Comparable}
+use Rattle.term_ring.specs.Rule.{Comparable, LeavesNoRoom, RisesWhere}
 
 abbrev pub copy_of : Kind → Kind
 copy_of Writing = SentCopy
@@ -15,10 +15,10 @@ copy_of _ = Spent
 module _ {N C : Type 0} where
   -- the view of the table's first seat
   abbrev pub first : C → ℕ → View N C
-  first script places = record { kind = First; script = Some script; places = places; notes = []; seen = 0; loads = 0; words = []; told = [] }
+  first script places = record { kind = First; script = Some script; places = places; notes = []; seen = 0; vain = 0; words = []; told = [] }
 
   abbrev pub spent : View N C
-  spent = record { kind = Spent; script = None; places = 0; notes = []; seen = 0; loads = 0; words = []; told = [] }
+  spent = record { kind = Spent; script = None; places = 0; notes = []; seen = 0; vain = 0; words = []; told = [] }
 
   abbrev pub writing : View N C → View N C
   writing v = record v { kind = Writing }
@@ -39,10 +39,11 @@ module _ {N C : Type 0} where
   HasScript v P = (c : C) × (v.script ≡ Some c) × P c
 
 module _ {S N C : Type 0} where
-  -- a load of the head by the writer, which finds r
+  -- a load of the head by the writer, which finds r; it is in vain where r leaves no room
   abbrev pub LooksAtHead : Step S → Me S (View N C) → ℕ → Me S (View N C) → Type 0
   LooksAtHead st m r w =
-      (w ≡ (record m.0 { seen = r; loads = m.0.loads + 1 }, m.1))
+      (w ≡ (record m.0 { seen = r; vain = w.0.vain }, m.1))
+      × RisesWhere (LeavesNoRoom r m.0.places (length m.0.notes)) m.0.vain w.0.vain
       × (m.0.seen ≤ r)
       × (r ≤ length m.0.notes)
       × (length m.0.notes ≤ r + m.0.places)
@@ -58,10 +59,11 @@ module _ {S N C : Type 0} where
   Sends words fits st m r w =
       (n : N) × HasScript m.0 (λ c. fits c n) × (words n ≡ m.0.words) × (w ≡ (record m.0 { notes = m.0.notes ++ n ∷ []; words = [] }, m.1))
 
-  -- a load of the tail by the reader, which finds r
+  -- a load of the tail by the reader, which finds r; it is in vain where each note that was sent is taken
   abbrev pub LooksAtTail : Step S → Me S (View N C) → ℕ → Me S (View N C) → Type 0
   LooksAtTail st m r w =
-      (w ≡ (record m.0 { seen = r; loads = m.0.loads + 1 }, m.1))
+      (w ≡ (record m.0 { seen = r; vain = w.0.vain }, m.1))
+      × RisesWhere (r ≡ length m.0.notes) m.0.vain w.0.vain
       × (m.0.seen ≤ r)
       × (length m.0.notes ≤ r)
       × (r ≤ length m.0.notes + m.0.places)

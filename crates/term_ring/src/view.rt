@@ -24,8 +24,8 @@ pub struct View<N, C> {
     pub notes: LinkedList<N>,
     /// The head that the writer saw last, the tail that the reader saw last.
     pub seen: u64,
-    /// How often it loaded that word.
-    pub loads: u64,
+    /// How often it loaded that word in vain: it found no room, or no note.
+    pub vain: u64,
     /// The first words of the next place, as far as the writer knows or has stored them, or the reader has read them.
     pub words: LinkedList<u64>,
     /// What the other end had taken, or sent, when the two last met.

@@ -1,6 +1,6 @@
 use Rattle.std.proofs.Common.{rules, ◌≡◌, [], ◌∷◌, map, ap, ◌∙◌}
 use Rattle.whole_laws.specs.Notes.{Product}
-use Rattle.global_heap.specs.Readers.{reader_name}
+use Rattle.term_ring.specs.Names.{reader_name}
 use Rattle.global_heap.proofs.Examples.{product_is, scripts, fits}
 use Rattle.global_heap.proofs.tests.begin.Goals as goal
 

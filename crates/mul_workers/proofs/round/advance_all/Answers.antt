@@ -8,10 +8,9 @@ use mir.Syntax.{named}
 use Rattle.term_ring.proofs.Shares.{ring_sync}
 use Rattle.global_heap.proofs.Shares.{merge_send}
 use Rattle.mul_workers.proofs.Shares.{worker_send, turnstile_sync, captures_sync}
-use Rattle.global_heap.specs.Names.{RingName, NoneBelow}
-use Rattle.global_heap.specs.Reached.{merge_name, merge_reached, NoneBelow-itself}
-use Rattle.global_heap.specs.Readers.{ring_name}
-use Rattle.mul_workers.specs.Senders.{IsAmong}
+use Rattle.term_ring.specs.Names.{RingName, NoneBelow, NoneBelow-itself, ring_name}
+use Rattle.global_heap.specs.Reached.{merge_name, merge_reached}
+use Rattle.term_ring.specs.Sending.{IsAmong}
 use Rattle.mul_workers.specs.Workers.{HasPass}
 use Rattle.mul_workers.specs.Rounds.{Moves}
 use Rattle.mul_workers.proofs.Steps.{all_move}

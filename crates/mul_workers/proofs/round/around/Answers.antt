@@ -1,7 +1,6 @@
 use Rattle.std.proofs.Common.{List, map, sym, subst}
-use Rattle.global_heap.specs.Names.{RingName}
-use Rattle.global_heap.specs.Readers.{ring_name}
-use Rattle.mul_workers.specs.Senders.{SenderView}
+use Rattle.term_ring.specs.Names.{RingName, ring_name}
+use Rattle.term_ring.specs.Sending.{SenderView}
 use Rattle.mul_workers.specs.Rounds.{AreMembers}
 use Rattle.mul_workers.proofs.Steps.{all_among}
 use Rattle.mul_workers.proofs.round.around.Goals as goal

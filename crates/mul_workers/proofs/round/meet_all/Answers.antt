@@ -1,8 +1,8 @@
 use Rattle.std.proofs.Common.{List, get_or, map, refl, ◌∙◌, subst, arith}
 use Rattle.std.proofs.lemmas.List.{length-map}
-use Rattle.global_heap.specs.Names.{RingName}
+use Rattle.term_ring.specs.Names.{RingName}
 use Rattle.global_heap.proofs.Steps.{NoneBelow-trans}
-use Rattle.mul_workers.specs.Senders.{IsAmong}
+use Rattle.term_ring.specs.Sending.{IsAmong}
 use Rattle.mul_workers.proofs.Teams.{members_among}
 use Rattle.mul_workers.proofs.Steps.{member_here, met_here, all_met}
 use Rattle.mul_workers.proofs.round.meet_all.Goals as goal

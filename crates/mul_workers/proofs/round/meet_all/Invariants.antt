@@ -1,5 +1,5 @@
 use Rattle.std.proofs.Common.{◌≡◌, map}
-use Rattle.global_heap.specs.Names.{NoneBelow}
+use Rattle.term_ring.specs.Names.{NoneBelow}
 use Rattle.mul_workers.proofs.Steps.{MeetsUpTo}
 use Rattle.mul_workers.proofs.round.meet_all.Given as goal
 

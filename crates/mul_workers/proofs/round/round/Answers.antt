@@ -1,7 +1,7 @@
 use Rattle.std.proofs.Common.{List, length, map, sym, subst, ◌∙◌}
 use Rattle.whole_laws.specs.Notes.{Note}
 use Rattle.whole_laws.specs.Wholes.{MergeState}
-use Rattle.global_heap.specs.Names.{RingName, NoneBelow}
+use Rattle.term_ring.specs.Names.{RingName, NoneBelow}
 use Rattle.global_heap.specs.Reached.{merge_reached}
 use Rattle.mul_workers.specs.Rounds.{AreMembers}
 use Rattle.mul_workers.proofs.Teams.{members_move, round_is}

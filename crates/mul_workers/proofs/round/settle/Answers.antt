@@ -1,5 +1,5 @@
 use Rattle.std.proofs.Common.{List, length, map, sym, ap, subst, ◌∙◌, arith}
-use Rattle.global_heap.specs.Names.{RingName}
+use Rattle.term_ring.specs.Names.{RingName}
 use Rattle.mul_workers.specs.Rounds.{AreMembers}
 use Rattle.mul_workers.proofs.Teams.{settled_by, met_team, have_met, members_meet}
 use Rattle.mul_workers.proofs.round.settle.Goals as goal

@@ -1,5 +1,5 @@
 use Rattle.std.proofs.Common.{map, sym, ap, ◌∙◌, arith}
-use Rattle.global_heap.specs.Names.{notes_count}
+use Rattle.term_ring.specs.Names.{notes_count}
 use Rattle.mul_workers.proofs.Bounds.{taken_within, taken_all, few_taken, round_takes, round_ends, team_still}
 use Rattle.mul_workers.proofs.rounds.finish.Goals as goal
 

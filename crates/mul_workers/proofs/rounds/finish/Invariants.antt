@@ -1,5 +1,6 @@
 use Rattle.std.proofs.Common.{◌≡◌, ◌≤◌, ◌-◌, map, length}
-use Rattle.global_heap.specs.Names.{first_product, notes_count, notes_total}
+use Rattle.term_ring.specs.Names.{notes_count}
+use Rattle.global_heap.specs.Names.{first_product, notes_total}
 use Rattle.global_heap.specs.Merges.{IsSound}
 use Rattle.mul_workers.specs.Rounds.{IsTeam}
 use Rattle.mul_workers.proofs.rounds.finish.Given as goal

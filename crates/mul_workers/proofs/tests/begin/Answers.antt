@@ -4,7 +4,7 @@ use Rattle.sdmp_laws.specs.Poly.{Term}
 use Rattle.sdmp_laws.specs.Canonical.{IsCanonical}
 use Rattle.canonical_terms.specs.View.{term_of}
 use Rattle.whole_laws.specs.Notes.{Product}
-use Rattle.global_heap.specs.Readers.{ring_name, reader_name}
+use Rattle.term_ring.specs.Names.{ring_name, reader_name}
 use Rattle.mul_workers.specs.Products.{product_of}
 use Rattle.mul_workers.proofs.Alone.{alone_is, alone_scripts, alone_fit, its_ring}
 use Rattle.mul_workers.proofs.tests.begin.Goals as goal

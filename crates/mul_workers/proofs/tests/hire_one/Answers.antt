@@ -1,5 +1,5 @@
 use Rattle.std.proofs.Common.{sym, ap, ◌∙◌}
-use Rattle.global_heap.specs.Readers.{ring_name}
+use Rattle.term_ring.specs.Names.{ring_name}
 use Rattle.mul_workers.proofs.Sending.{name_of_writer}
 use Rattle.mul_workers.proofs.Hiring.{rows_script, rows_rest}
 use Rattle.mul_workers.proofs.Alone.{one_among}

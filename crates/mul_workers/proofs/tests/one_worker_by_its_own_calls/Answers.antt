@@ -1,6 +1,6 @@
 use Rattle.std.proofs.Common.{[], ◌∷◌, sym, subst}
-use Rattle.global_heap.specs.Readers.{ring_name}
-use Rattle.mul_workers.specs.Senders.{IsAmong}
+use Rattle.term_ring.specs.Names.{ring_name}
+use Rattle.term_ring.specs.Sending.{IsAmong}
 use Rattle.mul_workers.proofs.Alone.{among_still}
 use Rattle.mul_workers.proofs.tests.one_worker_by_its_own_calls.Goals as goal
 

@@ -4,7 +4,7 @@ use Rattle.sdmp_laws.specs.Poly.{Term, terms, times}
 use Rattle.sdmp_laws.specs.Canonical.{IsCanonical}
 use Rattle.canonical_terms.specs.View.{term_of}
 use Rattle.whole_laws.specs.Notes.{Product}
-use Rattle.global_heap.specs.Readers.{ring_name, reader_name}
+use Rattle.term_ring.specs.Names.{ring_name, reader_name}
 use Rattle.mul_workers.specs.Rounds.{IsTeam}
 use Rattle.mul_workers.specs.Products.{product_of}
 use Rattle.mul_workers.proofs.Hiring.{readers_are, readers_scripts, readers_fit, all_sent, product_of_merge, workers_of_merge, team_of_merge}

@@ -1,6 +1,6 @@
 use Rattle.std.proofs.Common.{◌≡◌, ◌∙◌, ◌<◌, ◌+◌, ℕ, length, subst, sym, ap, arith}
 use Rattle.std.proofs.lemmas.List.{length-map}
-use Rattle.global_heap.specs.Readers.{ring_name}
+use Rattle.term_ring.specs.Names.{ring_name}
 use Rattle.global_heap.specs.Merges.{Fills}
 use Rattle.global_heap.proofs.Steps.{fill_begins, fill_served, fill_takes, fill_misses, first_is, first_stays}
 use Rattle.global_heap.proofs.merge.Merge.fill.Goals.{then-is_none, else-is_none}

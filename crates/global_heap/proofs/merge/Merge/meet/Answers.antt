@@ -1,7 +1,7 @@
 use Rattle.std.proofs.Common.{◌≡◌, ◌∙◌, ◌<◌, length, get_or, set, map, subst, sym, ap, arith}
 use Rattle.std.proofs.lemmas.List.{map-set, get_or-map}
 use Rattle.term_ring.specs.Ends.{taken, tail_seen, IsReaderOf}
-use Rattle.global_heap.specs.Names.{RingName, NoneBelow}
+use Rattle.term_ring.specs.Names.{RingName, NoneBelow}
 use Rattle.global_heap.proofs.Steps.{NoneBelow-set}
 use Rattle.global_heap.proofs.States.{idle_state, same_names}
 use Rattle.global_heap.proofs.Sound.{still_idle, reader_of, name_stays}

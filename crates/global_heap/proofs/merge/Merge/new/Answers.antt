@@ -2,7 +2,7 @@ use Rattle.std.proofs.Common.{◌≡◌, ◌∙◌, ◌<◌, ◌^◌, ℕ, sym, 
 use Rattle.global_heap.specs.Inside.{merge_state, IsMerge}
 use Rattle.whole_laws.specs.Wholes.{merge_start}
 use Rattle.global_heap.specs.Names.{first_product}
-use Rattle.global_heap.specs.Readers.{reader_name}
+use Rattle.term_ring.specs.Names.{reader_name}
 use Rattle.global_heap.specs.declared.head.HeadOf.TheVariants as head
 use Rattle.global_heap.proofs.Begun.{begins, start_state}
 use Rattle.global_heap.proofs.merge.Merge.new.Goals as goal

@@ -1,7 +1,7 @@
 use Rattle.std.proofs.Common.{◌≡◌, ◌∙◌, ◌+◌, ◌-◌, ◌<◌, [], ◌∷◌, ◌++◌, length, get_or, set, subst, sym, ap, refl, arith, vec_len, vec_capacity}
 use Rattle.term_ring.specs.Carried.{Fits}
 use Rattle.term_ring.specs.Ends.{taken, tail_seen, tail_loads, script_in, IsReaderOf}
-use Rattle.global_heap.specs.Names.{RingName}
+use Rattle.term_ring.specs.Names.{RingName}
 use Rattle.global_heap.specs.Merges.{IsWanting, Looks, TakesNote}
 use Rattle.global_heap.specs.Inside.{IsMerge, merge_view}
 use Rattle.global_heap.specs.declared.head.HeadOf.TheVariants as head

@@ -1,6 +1,6 @@
 use Rattle.std.proofs.Common.{sym, ap, subst, ◌∙◌}
 use Rattle.term_ring.specs.Ends.{script_in}
-use Rattle.mul_workers.specs.Senders.{sender_view, Sends}
+use Rattle.term_ring.specs.Sending.{sender_view, Sends}
 use Rattle.mul_workers.proofs.Sending.{ready, name_of_writer, carries_ring, keeps_note, sends_note, carried_by, within_script, sends_one}
 use Rattle.mul_workers.proofs.sender.Sender.push.Goals as goal
 

@@ -1,6 +1,6 @@
 use Rattle.std.proofs.Common.{◌+◌, ◌-◌, length}
 use Rattle.whole_laws.specs.Notes.{script_list}
-use Rattle.mul_workers.specs.Senders.{Sends, ArePushed}
+use Rattle.term_ring.specs.Sending.{Sends, ArePushed}
 use Rattle.mul_workers.proofs.sender.Sender.send.Given as goal
 
 abbrev pub invariant-loop-self : goal.invariant-loop-self

@@ -1,6 +1,6 @@
 use Rattle.std.proofs.Common.{rules, ◌≡◌, ◌<◌, [], map, sym, subst, arith}
 use Rattle.term_ring.specs.Ends.{taken}
-use Rattle.global_heap.specs.Readers.{ring_name, reader_name, IsReading}
+use Rattle.term_ring.specs.Names.{ring_name, reader_name, IsReading}
 use Rattle.mul_workers.specs.Products.{product_of}
 use Rattle.mul_workers.proofs.Steps.{one_more}
 use Rattle.mul_workers.proofs.Hiring.{AreHired, none_hired, names_more, hired_more, name_of_reader, hired_scripts, hired_members}

@@ -1,6 +1,6 @@
 use Rattle.std.proofs.Common.{◌≡◌, ◌≤◌, [], All, map, vec_len, vec_capacity}
 use Rattle.term_ring.specs.Ends.{taken}
-use Rattle.global_heap.specs.Readers.{ring_name, reader_name, IsReading}
+use Rattle.term_ring.specs.Names.{ring_name, reader_name, IsReading}
 use Rattle.mul_workers.specs.Products.{product_of}
 use Rattle.mul_workers.proofs.Hiring.{AreHired}
 use Rattle.mul_workers.proofs.team.Team.new.Given as goal

@@ -1,7 +1,6 @@
 use Rattle.std.proofs.Common.{List, length, get_or, map, sym, ap, ◌∙◌, arith}
 use Rattle.std.proofs.Math.ListN.{get_or-map}
-use Rattle.global_heap.specs.Names.{RingName}
-use Rattle.global_heap.specs.Readers.{ring_name}
+use Rattle.term_ring.specs.Names.{RingName, ring_name}
 use Rattle.mul_workers.proofs.worker.MulWorker.meet.Goals as goal
 
 pub meet-requires-clause-worker : goal.meet-requires-clause-worker
