@@ -47,9 +47,7 @@ fn answer<T: Threads + Sync, G: Gate, R: CoeffRing, M: Monomial>(
     if let LineFault::NoMemory = fault {
         return Err(NoMemory);
     }
-    if write_fault(alloc, number, &fault, out).is_err() {
-        return Err(NoMemory);
-    }
+    write_fault(alloc, number, &fault, out)?;
     Ok(Next::Refused)
 }
 
