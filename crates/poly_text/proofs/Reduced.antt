@@ -1,5 +1,5 @@
 -- A formal sum and the same one with its coefficients reduced.
-use Rattle.std.proofs.Common.{◌≡◌, ◌≤◌, ℕ, Bool, true, false, cond, List, [], ◌∷◌, length, Option, Some, None, Result, Ok, Err, refl, sym, ◌∙◌, ap, subst}
+use Rattle.std.proofs.Common.{◌≡◌, ◌≤◌, ℕ, Bool, true, false, cond, List, [], ◌∷◌, length, Option, Some, None, Ok, Err, refl, sym, ◌∙◌, ap, subst}
 use Rattle.std.specs.Prelude.{◌+ℤ◌, MatchOption}
 use Rattle.sdmp_laws.specs.Order.{Order, alike}
 use Rattle.sdmp_laws.specs.Limits.{greatest_norm}
@@ -12,11 +12,11 @@ use Rattle.text_laws.specs.Automaton.{fault_place}
 use Rattle.text_laws.specs.Denotes.{IsSyntaxFault}
 use Rattle.text_laws.specs.Grammar.{Tree, Spells, IsText}
 use Rattle.text_laws.specs.Reading.{denotes, summed, reading}
-use Rattle.text_laws.specs.Summands.{Summand, summands, unknown, above_degree, above_coefficient, written_terms, refused, verdict}
+use Rattle.text_laws.specs.Summands.{summands, written_terms, verdict}
 use Rattle.text_laws.specs.declared.TextFault.{TextFault}
 use Rattle.text_laws.specs.declared.TextFault.TheVariants as faults
 use Rattle.text_laws.proofs.Denoting.{denotes_is, denotes_syntax, place_is}
-use Rattle.text_laws.proofs.Limits.{terms_over, norm_within}
+use Rattle.text_laws.proofs.Limits.{faultless, terms_over, norm_within}
 use Rattle.text_laws.proofs.OneReading.{denotes_fault}
 use Rattle.poly_text.specs.ReadsTerms.{reduced, ReadsTree}
 
@@ -81,19 +81,6 @@ reduced_same : (F : List Term) → reduced 0 F ≡ F
 reduced_same [] = refl
 reduced_same (t ∷ F) = ap (λ (G : List Term). t ∷ G) (reduced_same F)
 
-not_refused : (f : ℕ → TextFault) (o : Option ℕ) (r : Result (List Term) TextFault) (F : List Term) → refused f o r ≡ Ok F → (o ≡ None) × (r ≡ Ok F)
-not_refused f None r F e = (refl, e)
-not_refused f (Some at) r F e = absurd cc
-
-no_coefficient : (names : List (List ℕ)) (p lim : ℕ) (ss : List Summand) (F : List Term) → verdict names p lim ss ≡ Ok F → above_coefficient p ss ≡ None
-no_coefficient names p lim ss F e =
-    let all : Result (List Term) TextFault = Ok (written_terms names ss) in
-    let coefficients : Result (List Term) TextFault = refused (λ at. faults.CoefficientBound at) (above_coefficient p ss) all in
-    let degrees : Result (List Term) TextFault = refused (λ at. faults.DegreeBound at) (above_degree lim ss) coefficients in
-    let known : degrees ≡ Ok F = (not_refused (λ at. faults.UnknownName at) (unknown names ss) degrees F e).1 in
-    let low : coefficients ≡ Ok F = (not_refused (λ at. faults.DegreeBound at) (above_degree lim ss) coefficients F known).1 in
-    (not_refused (λ at. faults.CoefficientBound at) (above_coefficient p ss) all F low).0
-
 -- over the integers the terms of a text that has no fault are within the bound
 pub norm_read : {X : Type 0} (terms_in : X → List Term) (names : List (List ℕ)) (p lim : ℕ) (bytes : List ℕ) (o : Option ℕ) (v : X) → o ≡ fault_place bytes → o ≡ None
     → ((t : Tree) → Spells t bytes → ReadsTree terms_in names p lim t (Ok v)) → p ≡ 0 → norm (terms_in v) ≤ greatest_norm
@@ -103,4 +90,4 @@ norm_read terms_in names p lim bytes o v e n r z = by (syntax_is bytes o e n)
     by (t, s) =
         let F : List Term = written_terms names (summands t) in
         let is : terms_in v ≡ F = (r t s).1 ∙ ap (λ (q : ℕ). reduced q F) z ∙ reduced_same F in
-        subst (λ (L : List Term). norm L ≤ greatest_norm) (sym is) (norm_within names p (summands t) (no_coefficient names p lim (summands t) F (r t s).0) z)
+        subst (λ (L : List Term). norm L ≤ greatest_norm) (sym is) (norm_within names p (summands t) (faultless names p lim (summands t) F (r t s).0).coefficients z)

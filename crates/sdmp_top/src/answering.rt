@@ -47,7 +47,9 @@ fn answer<T: Threads + Sync, G: Gate, R: CoeffRing, M: Monomial>(
     if let LineFault::NoMemory = fault {
         return Err(NoMemory);
     }
-    write_fault(alloc, number, &fault, out)?;
+    if write_fault(alloc, number, &fault, out).is_err() {
+        return Err(NoMemory);
+    }
     Ok(Next::Refused)
 }
 

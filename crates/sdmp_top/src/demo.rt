@@ -33,7 +33,9 @@ pub fn demo_summary<T: Threads + Sync, G: Gate>(
     ensures text { IfOk result (λ s. s.text.items ≡ demo_text seed) }
     ensures ending { IfOk result (λ s. s.ending ≡ (answers packed (demo_input_of seed)).ending) }
 {
-    let input = demo_input(alloc, seed)?;
+    let Ok(input) = demo_input(alloc, seed) else {
+        return Err(NoMemory);
+    };
     let mut gathered = Gathered::new(alloc);
     let Ok(ending) = answer_input(alloc, by, &input, &mut gathered) else {
         return Err(NoMemory);
