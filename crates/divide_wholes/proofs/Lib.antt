@@ -7,3 +7,4 @@ pub mod TakeLemmas
 pub mod WorkerLemmas
 pub mod MarkLemmas
 pub mod MergeRowLemmas
+mod Examples

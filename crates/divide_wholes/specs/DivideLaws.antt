@@ -38,7 +38,7 @@ CandidateNone =
     ((u : ℤ) → Divides (lm s.division.g) x → IsReduced s.division.p u → red s.division.p (u *ℤ lc s.division.g) ≡ coef s.division.p (minus s.unread (head_terms s.heads)) x → ⊥) →
     (q : List Term) → IsExact s.division q → ⊥
 
--- a front may be published at a bound, and as low as no multiple of lm(g) at the bound or below passes it
+-- no later quotient term times lm(g) is above a front at a bound
 abbrev pub BoundIsFront : Type 0
 BoundIsFront =
     (s : DivideState) (x y : List ℕ) → IsAccepted s.division → DivideWhole s → IsBound s x → IsFrontAt s.division x y →

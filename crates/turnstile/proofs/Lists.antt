@@ -6,11 +6,13 @@ use mathlib.Core.Logic.{dite}
 use native.Mathlib.Decide.{ℕ_discrete}
 
 module _ {X : Type 0} where
+  -- the first i have met Q; the next one meets it too
   pub set_more : (P Q : X → Type 0) (xs : List X) (i : ℕ) (x : X) → ((k : ℕ) (d : X) → k < i → P (get_or xs k d)) → ((y : X) → P y → Q y) → Q x → i < length xs → (k : ℕ) (d : X) → k < i + 1 → Q (get_or (set xs i x) k d)
   set_more P Q xs i x old moves new lt k d below = dite (ℕ_discrete k i)
       (λ is. subst (λ (j : ℕ). Q (get_or (set xs i x) j d)) (sym is) (subst Q (sym (get_or-set_same xs i x d lt)) new))
       (λ not. subst Q (sym (get_or-set_other xs i k x d not)) (moves (get_or xs k d) (old k d (omega (arith, not)))))
 
+  -- a change at i leaves those above it
   pub set_less : (P : X → Type 0) (xs : List X) (i : ℕ) (x : X) → ((k : ℕ) (d : X) → i ≤ k → k < length xs → P (get_or xs k d)) → (k : ℕ) (d : X) → i + 1 ≤ k → k < length (set xs i x) → P (get_or (set xs i x) k d)
   set_less P xs i x all k d above lt = let same = length-set xs i x in subst P (sym (get_or-set_other xs i k x d (λ is. absurd (omega arith)))) (all k d (omega arith) (omega arith))
 
@@ -18,14 +20,16 @@ module _ {X : Type 0} where
   one_has P x h zero d lt = h
   one_has P x h (suc k) d lt = absurd (omega arith)
 
+  -- what holds of all holds with one more at the end
   pub one_more : (P : X → Type 0) (xs ys : List X) (x : X) → ys ≡ xs ++ x ∷ [] → All P xs → P x → All P ys
   one_more P xs ys x is all new = subst (All P) (sym is) (All-append P xs (x ∷ []) all (one_has P x new))
 
+-- the value, or the first where there is none
 abbrev pub got : {X : Type 0} → X → Option X → X
 got d None = d
 got d (Some y) = y
 
--- what holds of all passes holds of the one that is popped, and of the rest
+-- what holds of all holds of the one that is popped, and of the rest
 pub popped : {X : Type 0} (P : X → Type 0) (n : ℕ) (old new : List X) (r : Option X) (x : X) → n ≡ length old → old ≡ new ++ option_to_list r → ((d : X) → 0 < n → r ≡ Some (get_or old (n - 1) d)) → new ≡ take (n - 1) old → r ≡ Some x
     → All P old → P x × All P new × (length old ≡ length new + 1)
 popped {X} P n old new r x count items value rest is all =

@@ -1,4 +1,4 @@
-use crate::{Settings, WordsFault, read_words};
+use sdmp_words::{Settings, WordsFault, read_words};
 use std::alloc::Global;
 use std::test::Fail;
 

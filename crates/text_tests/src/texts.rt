@@ -1,11 +1,10 @@
 ghost use Rattle.std.specs.Prelude.{◌≡◌, length, IfOk};
 
-use crate::{Names, read_poly, write_poly};
 use coeff_ring::Integers;
 use packed_monomial::Packed;
+use poly_text::{Names, TextFault, read_poly, write_poly};
 use std::alloc::Global;
 use std::test::Fail;
-use text_laws::TextFault;
 
 // the names of one variable
 fn one_name(alloc: Global) -> Result<Names, Fail>

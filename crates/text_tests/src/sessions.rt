@@ -1,4 +1,7 @@
-use super::*;
+use calc_session::{
+    BodySession, Line, LineFault, RingChoice, demo_input, parse_header, parse_line, parse_ring,
+    parse_vars, split_line, write_fault, write_line, write_none, write_pair,
+};
 use coeff_ring::Integers;
 use packed_monomial::Packed;
 use std::test::Fail;

@@ -1,33 +1,15 @@
 //! Divisions with known answers.
-ghost use Rattle.std.specs.Prelude.{◌≡◌, IfOk};
+ghost use Rattle.std.specs.Prelude.{◌≡◌};
 
-use super::*;
+use crate::lines::{Line, two_terms};
 use canonical_terms::{Poly, TermOf};
 use coeff_residue::Residues;
 use coeff_ring::Integers;
+use divide_core::{DivideFault, Division, divide_alone};
 use packed_monomial::{Monomial, Packed};
 use sdmp_laws::Mode;
 use std::alloc::Global;
 use std::test::Fail;
-
-type Line = Poly<Integers, Packed<1>>;
-
-// a x^m + b x^n
-fn two_terms(alloc: Global, a: i64, m: u32, b: i64, n: u32) -> Result<Line, Fail>
-    ensures { IfOk result (λ f. f.modulus ≡ 0) }
-{
-    let terms = [
-        TermOf {
-            mono: Packed::<1>::pack(&[m])?,
-            coef: i128::from(a),
-        },
-        TermOf {
-            mono: Packed::<1>::pack(&[n])?,
-            coef: i128::from(b),
-        },
-    ];
-    Ok(Line::from_terms(alloc, Integers, terms.to_vec(alloc)?)?)
-}
 
 // the coefficients, the greatest monomial's first
 fn coefs(alloc: Global, f: &Line) -> Result<Vec<i128>, Fail> {

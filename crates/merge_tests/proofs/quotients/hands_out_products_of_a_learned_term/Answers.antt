@@ -6,7 +6,7 @@ use Rattle.sdmp_laws.specs.Limits.{greatest_norm}
 use Rattle.sdmp_laws.specs.Canonical.{degree_of}
 use Rattle.sdmp_laws.proofs.Parts.{norm_cons, norm_nil}
 use Rattle.row_merge.specs.Learned.{QuotientState}
-use Rattle.row_merge.proofs.tests.hands_out_products_of_a_learned_term.Goals as goal
+use Rattle.merge_tests.proofs.quotients.hands_out_products_of_a_learned_term.Goals as goal
 
 falls_alone : (ord : Order) (L : List Term) (t : Term) → L ≡ [] → Decreasing ord (L ++ t ∷ [])
 unfolding Decreasing AllBelow
@@ -42,4 +42,4 @@ learn-requires-clause-fits g c κs = λ z.
     norm_fits c.reserve.new.self.learned c.reserve.new.self.divisor c.in_ok-divisor.divisor.list _ c.norm.result
     (ap (λ (s : QuotientState). s.learned) c.reserve.ensures.same ∙ ap (λ (s : QuotientState). s.learned) c.in_ok-rows.ensures) refl
     (ap (λ (s : QuotientState). s.divisor) c.reserve.ensures.same ∙ ap (λ (s : QuotientState). s.divisor) c.in_ok-rows.ensures)
-    c.norm.ensures.value (c.norm.ensures.fits c.in_ok-divisor.ensures.modulus)
+    c.norm.ensures.value (c.norm.ensures.fits c.in_ok-divisor.ensures)
