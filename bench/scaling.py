@@ -2,7 +2,7 @@
 """Measures products by several workers, beside FLINT's heap method and beside other programs.
 
     scaling.py [--program [NAME=]PATH].. [--runs N] [--only PART,..]
-               [--size small|medium|large] [--load N] [--plot]
+               [--size small|medium|large] [--load N] [--limit S] [--plot]
 
 The capacity of the machine for W workers is what W copies of a product by one
 worker do side by side, over what one copy does alone: W times the time of one,
@@ -15,19 +15,20 @@ the W copies side by side, over W times the time of the one product.
     peers     all products of workloads.py by 4 workers beside FLINT by 4 threads
     tiny      a session of many tiny products, with the program's own words and
               by 1, 4 and 64 workers
-    load      with --load N alone: products by 4 workers at 2, 64 and 1024 places,
-              quiet and beside N busy loops
+    load      with --load N alone: two smaller products by 4 workers at 2, 64 and
+              1024 places, quiet and beside N busy loops
 
 Where PATH is given several times, as an older and a newer program, all take
 turns in one run. The least time of N runs (5) counts, less that of the same
 session without its commands, and all outputs of a session are compared byte for
-byte. With --plot the speed-ups of this run are drawn into docs/scaling.svg.
+byte. In the last two parts a run is killed after S seconds (60). With --plot the speed-ups of this run are drawn into docs/scaling.svg.
 
 Exit status: 0, or 1 where outputs differ or a run fails.
 """
 import argparse
 import math
 import os
+import signal
 import sys
 import tempfile
 
@@ -41,7 +42,11 @@ WORKERS = 2, 4
 PLACES = 64, 1024, 65536
 LOADED_PLACES = 2, 64, 1024
 OWN_PLACES = 1024
-LOADED_SECONDS = 120
+LOADED = {
+    'small': ['dense08', 'scattered00200'],
+    'medium': ['dense12', 'scattered01000'],
+    'large': ['dense20', 'scattered03000'],
+}
 
 
 def sdmp(path, workers, places=None):
@@ -52,14 +57,16 @@ def sdmp(path, workers, places=None):
 class Bench:
     """The sessions, the programs by their names, FLINT's peer where it is there, and what went wrong."""
 
-    def __init__(self, folder, size, programs, runs):
+    def __init__(self, folder, size, programs, runs, limit):
         self.folder = folder
         self.programs = programs
         self.runs = runs
+        self.limit = limit
         self.faults = []
         self.peer = program.flint_peer(folder)
         self.rows = write_folder(folder, size)
         self.four = [self.rows[name] for name in FOUR_PRODUCTS[size]]
+        self.loaded = [self.rows[name] for name in LOADED[size]]
 
     def session(self, row):
         return os.path.join(self.folder, row['name'] + '.sdmp')
@@ -197,26 +204,28 @@ def measure_tiny(bench):
     row = next(row for row in bench.rows.values() if row['commands'] > 1)
     least = {}
     for name, path in bench.programs.items():
-        least[name, 'none'] = Least([path])
+        least[name, 'none'] = Least([path], limit=bench.limit)
         for workers in 1, 4, 64:
-            least[name, '--workers %d' % workers] = Least(sdmp(path, workers))
+            least[name, '--workers %d' % workers] = Least(sdmp(path, workers), limit=bench.limit)
     if bench.peer:
         least['FLINT', '--heap'] = Least(bench.flint(1))
     bench.turns(row, least)
-    table(['session', 'program', 'words', 'whole s', 'answer s', 'µs a product'], [
-        (row['name'], name, words, '%.3f' % one.whole, seconds(one), '%.1f' % (one.answer() / row['commands'] * 1e6))
-        for (name, words), one in least.items()])
+    rows = []
+    for (name, words), one in least.items():
+        each = '' if one.late else '%.1f' % (one.answer() / row['commands'] * 1e6)
+        rows.append((row['name'], name, words, seconds(one), each))
+    table(['session', 'program', 'words', 'answer s', 'µs a product'], rows)
 
 
 def measure_load(bench, count):
     rows = []
     with BusyLoops(count) as loops:
-        for row in bench.four:
+        for row in bench.loaded:
             least = {}
             for name, path in bench.programs.items():
                 for places in LOADED_PLACES:
                     for is_loaded in False, True:
-                        least[name, places, is_loaded] = Least(sdmp(path, 4, places), limit=LOADED_SECONDS, beside=loops if is_loaded else None)
+                        least[name, places, is_loaded] = Least(sdmp(path, 4, places), limit=bench.limit, beside=loops if is_loaded else None)
             bench.turns(row, least)
             for name in bench.programs:
                 for places in LOADED_PLACES:
@@ -242,11 +251,14 @@ def main():
     parser.add_argument('--only', default='products,peers,tiny,load')
     parser.add_argument('--size', choices=list(FOUR_PRODUCTS), default='medium')
     parser.add_argument('--load', type=int, default=0)
+    parser.add_argument('--limit', type=float, default=60)
     parser.add_argument('--plot', action='store_true')
     words = parser.parse_args()
     parts = words.only.split(',')
+    # ended from outside, it ends the busy loops too
+    signal.signal(signal.SIGTERM, lambda *_: sys.exit(1))
     with tempfile.TemporaryDirectory() as folder:
-        bench = Bench(folder, words.size, named(words.program), words.runs)
+        bench = Bench(folder, words.size, named(words.program), words.runs, words.limit)
         if 'products' in parts:
             measure_products(bench, words.plot)
         if 'peers' in parts:
