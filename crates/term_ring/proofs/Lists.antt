@@ -4,7 +4,8 @@ use mathlib.Core.List.{IsPrefix}
 use mathlib.Core.Option.{some, some-injective, some-ne-none}
 use lib.ListN.{get_elem?}
 use Rattle.std.proofs.lemmas.List.{set-append_right}
-use Rattle.term_ring.specs.Rule.{Comparable, place, words_of_ring}
+use Rattle.term_ring.specs.Rule.{place, words_of_ring}
+use Rattle.term_ring.specs.Views.{Comparable}
 
 module _ {A : Type 0} where
   pub prefix_self : (xs : List A) → IsPrefix xs xs

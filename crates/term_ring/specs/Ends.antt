@@ -29,7 +29,7 @@ module _ {X Y Z : Type 0} where
 
   -- how often it loaded the head and found no room
   abbrev pub full_looks : Writer X Y Z → ℕ
-  full_looks w = w.end.seat.me.0.vain
+  full_looks w = w.end.seat.me.0.looks
 
   -- the writer was made with the ring
   abbrev pub IsWriterOf : Ring X Y Z → Writer X Y Z → Type 0
@@ -45,7 +45,7 @@ module _ {X Y Z : Type 0} where
 
   -- how often it loaded the tail and found no note
   abbrev pub empty_looks : Reader X Y Z → ℕ
-  empty_looks r = r.end.seat.me.0.vain
+  empty_looks r = r.end.seat.me.0.looks
 
   -- what the writer had sent when the two last met
   abbrev pub told_sent : Reader X Y Z → List (NoteOf Y Z)

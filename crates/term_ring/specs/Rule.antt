@@ -8,10 +8,6 @@ use Rattle.term_ring.specs.declared.view.View.{View}
 use Rattle.term_ring.specs.declared.view.Kind.{Kind}
 use Rattle.term_ring.specs.declared.view.Kind.TheVariants.{Spent, First, Writing, Reading, SentCopy, TakenCopy}
 
--- one of the lists begins with the other
-abbrev pub Comparable : {N : Type 0} → List N → List N → Type 0
-Comparable xs ys = IsPrefix xs ys ⊎ IsPrefix ys xs
-
 -- where the head and the tail stand
 abbrev pub head_word : ℕ
 head_word = 0
@@ -37,10 +33,10 @@ pub record RisesWhere (P : Type 0) (before after : ℕ) : Type 0 where
   pub stays : ¬ P → after ≡ before
 
 -- what the writer knows, where these notes were taken, these are inside and these words begin the next place
-pub record WriterKnows {N C : Type 0} (script : C) (places : ℕ) (taken inside : List N) (stored : List ℕ) (parted writer seat : ℕ) (v : View N C) : Type 0 where
+pub record WriterKnows {N C : Type 0} (script : C) (places : ℕ) (taken inside : List N) (stored : List ℕ) (parted writer seat : ℕ) (v : View Kind N C) : Type 0 where
   pub begun : parted ≡ 1
   pub mine : seat ≡ writer
-  pub scripted : v.script ≡ Some script
+  pub scripted : v.subject ≡ Some script
   pub sized : v.places ≡ places
   pub all : v.notes ≡ taken ++ inside
   pub saw : v.seen ≤ length taken
@@ -48,10 +44,10 @@ pub record WriterKnows {N C : Type 0} (script : C) (places : ℕ) (taken inside 
   pub heard : IsPrefix v.told taken
 
 -- what the reader knows
-pub record ReaderKnows {N C : Type 0} (words : N → List ℕ) (script : C) (places : ℕ) (taken inside : List N) (parted reader seat : ℕ) (v : View N C) : Type 0 where
+pub record ReaderKnows {N C : Type 0} (words : N → List ℕ) (script : C) (places : ℕ) (taken inside : List N) (parted reader seat : ℕ) (v : View Kind N C) : Type 0 where
   pub begun : parted ≡ 1
   pub mine : seat ≡ reader
-  pub scripted : v.script ≡ Some script
+  pub scripted : v.subject ≡ Some script
   pub sized : v.places ≡ places
   pub all : v.notes ≡ taken
   pub saw : v.seen ≤ length taken + length inside
@@ -61,10 +57,10 @@ pub record ReaderKnows {N C : Type 0} (words : N → List ℕ) (script : C) (pla
   pub heard : IsPrefix v.told (taken ++ inside)
 
 -- the table's first seat is alone, and nothing has happened
-pub record FirstKnows {N C : Type 0} (script : C) (places : ℕ) (taken inside : List N) (stored : List ℕ) (parted writer seat : ℕ) (v : View N C) : Type 0 where
+pub record FirstKnows {N C : Type 0} (script : C) (places : ℕ) (taken inside : List N) (stored : List ℕ) (parted writer seat : ℕ) (v : View Kind N C) : Type 0 where
   pub unbegun : parted ≡ 0
   pub mine : seat ≡ writer
-  pub scripted : v.script ≡ Some script
+  pub scripted : v.subject ≡ Some script
   pub sized : v.places ≡ places
   pub notes : v.notes ≡ []
   pub seen : v.seen ≡ 0
@@ -74,7 +70,7 @@ pub record FirstKnows {N C : Type 0} (script : C) (places : ℕ) (taken inside :
   pub inside_none : inside ≡ []
   pub stored_none : stored ≡ []
 
-module _ {N C : Type 0} (words : N → List ℕ) (script : C) (places : ℕ) (taken inside : List N) (stored : List ℕ) (parted writer reader seat : ℕ) (v : View N C) where
+module _ {N C : Type 0} (words : N → List ℕ) (script : C) (places : ℕ) (taken inside : List N) (stored : List ℕ) (parted writer reader seat : ℕ) (v : View Kind N C) where
   abbrev pub KnowsAs : Kind → Type 0
   KnowsAs Spent = Unit {0}
   KnowsAs First = FirstKnows script places taken inside stored parted writer seat v
@@ -87,7 +83,7 @@ module _ {N C : Type 0} (words : N → List ℕ) (script : C) (places : ℕ) (ta
   Knows = KnowsAs v.kind
 
 -- The head is the number taken and the tail the number sent, and the five words of each note inside spell it. Which notes may be sent is said by `carry`, which no step opens.
-pub record IsRing {S N C : Type 0} (words : N → List ℕ) (fits : C → N → Type 0) (carry : C → List N → Type 0) (script : C) (places : ℕ) (s : State S (View N C)) : Type 0 where
+pub record IsRing {S N C : Type 0} (words : N → List ℕ) (fits : C → N → Type 0) (carry : C → List N → Type 0) (script : C) (places : ℕ) (s : State S (View Kind N C)) : Type 0 where
   pub taken : List N
   pub inside : List N
   -- the first words of the next place, as far as the writer knows or has stored them
@@ -109,4 +105,4 @@ pub record IsRing {S N C : Type 0} (words : N → List ℕ) (fits : C → N → 
   pub short : length stored ≤ 5
   pub free : 0 < length stored → length inside < places
   pub next : (k : ℕ) → k < length stored → slice_index s.words (place places (length taken + length inside) k) ≡ slice_index stored k
-  pub each_seat : (j : ℕ) (v : View N C) → get_elem? s.views j ≡ some v → Knows words script places taken inside stored parted writer reader j v
+  pub each_seat : (j : ℕ) (v : View Kind N C) → get_elem? s.views j ≡ some v → Knows words script places taken inside stored parted writer reader j v

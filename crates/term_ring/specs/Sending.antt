@@ -1,5 +1,5 @@
 -- What a worker has sent, and what a call adds to it.
-use Rattle.std.specs.Prelude.{◌≡◌, ℕ, ℤ, ◌+◌, ◌<◌, ◌≤◌, ◌^◌, ◌⊎◌, Bool, true, false, List, [], ◌∷◌, ◌++◌, length, map, slice_index_or}
+use Rattle.std.specs.Prelude.{◌≡◌, ℕ, ℤ, ◌<◌, ◌≤◌, Bool, true, false, List, [], ◌∷◌, ◌++◌, length, map, slice_index_or}
 use mathlib.Core.List.{IsPrefix}
 use Rattle.sdmp_laws.specs.Poly.{Term}
 use Rattle.whole_laws.specs.Notes.{Note, TermNote, EndNote, Script, script_list}

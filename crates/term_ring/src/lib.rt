@@ -19,6 +19,7 @@ pub use note::{Note, NoteOf};
 pub use ring::{Empty, Full, Reader, Ring, Writer};
 pub use scalars::Scalars;
 pub use script::Script;
+pub use view::View;
 
 #[cfg(test)]
 mod tests;

@@ -19,12 +19,12 @@ impl<R: CoeffRing, M: Monomial> Ring<R, M> {
     /// A ring of so many places, at least 1, for the notes of the script, with its writer and its reader. Nothing is sent. The one refusal is want of memory.
     pub fn new(
         alloc: Global,
-        ring: R,
+        coefficients: R,
         places: u32,
         script: &Script<'_, R, M>,
     ) -> Result<(Ring<R, M>, Writer<R, M>, Reader<R, M>), NoMemory>
         requires places { 0 < places }
-        requires ring { R.characteristic ring ≡ modulus_of (script_of M.order M.VARS script.now) }
+        requires coefficients { R.characteristic coefficients ≡ modulus_of (script_of M.order M.VARS script.now) }
         ensures script { IfOk result (λ t. script_in t.0 ≡ script_of M.order M.VARS script.now) }
         ensures places { IfOk result (λ t. places_of t.0 ≡ places) }
         ensures writer { IfOk result (λ t. IsWriterOf t.0 t.1) }
@@ -70,7 +70,7 @@ impl<R: CoeffRing, M: Monomial> Ring<R, M> {
         };
         let ring = Ring {
             table,
-            scalars: Scalars::new(ring),
+            scalars: Scalars::new(coefficients),
         };
         Ok((ring, writer, reader))
     }

@@ -3,7 +3,8 @@ ghost use Rattle.std.specs.Prelude.{◌≡◌, ◌+◌, ◌%◌, ◌^◌, ◌<�
 ghost use Rattle.std.specs.Bool.{OnTrue, OnFalse};
 ghost use mathlib.Core.List.{IsPrefix};
 ghost use Rattle.term_ring.specs.Carried.{Fits, Carries};
-ghost use Rattle.term_ring.specs.Rule.{Comparable, LeavesNoRoom, RisesWhere};
+ghost use Rattle.term_ring.specs.Rule.{LeavesNoRoom, RisesWhere};
+ghost use Rattle.term_ring.specs.Views.{Comparable};
 ghost use Rattle.term_ring.specs.Ends.{IsWriterOf, IsReaderOf, script_in, places_of, table_of, sent, taken, head_seen, full_looks, tail_seen, empty_looks, told_sent};
 ghost use Rattle.term_ring.specs.declared.view.Kind.TheVariants.{Reading};
 
@@ -80,7 +81,7 @@ impl<R: CoeffRing, M: Monomial> Reader<R, M> {
             .store::<Take<R, M>>(&mut end.seat, HEAD, end.number + 1);
         end.slot = next_slot(end.slot, end.places, end.number);
         end.number += 1;
-        Ok(from_words(&ring.scalars.ring(), &bits))
+        Ok(from_words(&ring.scalars.coefficients(), &bits))
     }
 
     /// From here on the reader has seen all that the writer had sent, so a later pop finds a note until those are taken, and the writer has seen all that the reader had taken. It allocates nothing.

@@ -7,7 +7,7 @@ use crate::note::Note;
 use crate::scalars::Scalars;
 use crate::script::Plan;
 use crate::steps::{Key, RingRule, RingView};
-use crate::view::View;
+use crate::view::{Kind, View};
 use atomic_table::{Seat, Table};
 use coeff_ring::CoeffRing;
 use packed_monomial::Monomial;
@@ -41,14 +41,14 @@ pub struct Ring<R: CoeffRing, M: Monomial> {
 /// What an end keeps: its seat at the table, its script, the number and the place of its next note, and the head or the tail of the other end as it saw it last.
 #[derive(Drop)]
 pub struct End<N, C> {
-    pub(crate) seat: Seat<(), View<N, C>>,
+    pub(crate) seat: Seat<(), View<Kind, N, C>>,
     pub(crate) script: Snapshot<C>,
     pub(crate) places: u64,
     pub(crate) number: u64,
     pub(crate) slot: u64,
     pub(crate) seen: u64,
     ghost held: { seat.me.1 ≡ [] },
-    ghost scripted: { (seat.me.0.script ≡ Some script.value) × (seat.me.0.places ≡ places) },
+    ghost scripted: { (seat.me.0.subject ≡ Some script.value) × (seat.me.0.places ≡ places) },
     ghost some_place: { (0 < places) × (places < 2 ^ 32) },
     ghost counted: { (length seat.me.0.notes ≡ number) × (number ≤ 2 ^ 63) },
     ghost placed: { slot ≡ number % places },

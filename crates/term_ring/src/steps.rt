@@ -2,11 +2,12 @@
 ghost use Rattle.term_ring.specs.Spelling.{words_of};
 ghost use Rattle.term_ring.specs.Carried.{Fits, Carries};
 ghost use Rattle.term_ring.specs.Rule.{IsRing};
-ghost use Rattle.term_ring.specs.Steps.{first, spent, writing, reading, copied, told, LooksAtHead, Puts, Sends, LooksAtTail, Peeks, Takes};
+ghost use Rattle.term_ring.specs.Steps.{first, spent, writing, reading, copied, LooksAtHead, Puts, LooksAtTail, Takes};
+ghost use Rattle.term_ring.specs.Views.{told, Peeks, Sends};
 
 use crate::note::Note;
 use crate::script::Plan;
-use crate::view::View;
+use crate::view::{Kind, View};
 use atomic_table::{Join, Play, Split, TableRule};
 use coeff_ring::CoeffRing;
 use packed_monomial::Monomial;
@@ -14,7 +15,7 @@ use std::marker::PhantomData;
 use std::snapshot::Snapshot;
 
 /// What a seat of a ring's table knows.
-pub(crate) type RingView<R, M> = View<Note<R, M>, Plan<R, M>>;
+pub(crate) type RingView<R, M> = View<Kind, Note<R, M>, Plan<R, M>>;
 
 /// What the table is told when it is made.
 #[derive(Drop)]
@@ -37,14 +38,14 @@ impl<R: CoeffRing, M: Monomial> TableRule<(), RingView<R, M>, Key<R, M>> for Rin
 /// A load of the head by the writer.
 pub(crate) struct LookAtHead;
 
-impl<N, C> Play<(), View<N, C>> for LookAtHead {
+impl<N, C> Play<(), View<Kind, N, C>> for LookAtHead {
     ghost then = { LooksAtHead };
 }
 
 /// A store over the word that the writer loaded last.
 pub(crate) struct Put;
 
-impl<N, C> Play<(), View<N, C>> for Put {
+impl<N, C> Play<(), View<Kind, N, C>> for Put {
     ghost then = { Puts };
 }
 
@@ -60,14 +61,14 @@ impl<R: CoeffRing, M: Monomial> Play<(), RingView<R, M>> for Send<R, M> {
 /// A load of the tail by the reader.
 pub(crate) struct LookAtTail;
 
-impl<N, C> Play<(), View<N, C>> for LookAtTail {
+impl<N, C> Play<(), View<Kind, N, C>> for LookAtTail {
     ghost then = { LooksAtTail };
 }
 
 /// A load of a word of the next place, by either end.
 pub(crate) struct Peek;
 
-impl<N, C> Play<(), View<N, C>> for Peek {
+impl<N, C> Play<(), View<Kind, N, C>> for Peek {
     ghost then = { Peeks };
 }
 
@@ -83,7 +84,7 @@ impl<R: CoeffRing, M: Monomial> Play<(), RingView<R, M>> for Take<R, M> {
 /// A split of the table's first seat: it becomes the writer's, and the new one is the reader's.
 pub(crate) struct Part;
 
-impl<N, C> Split<View<N, C>> for Part {
+impl<N, C> Split<View<Kind, N, C>> for Part {
     ghost left = { writing };
 
     ghost right = { reading };
@@ -92,7 +93,7 @@ impl<N, C> Split<View<N, C>> for Part {
 /// A split of an end's seat: the new one has a copy of what it sent or took.
 pub(crate) struct Copy;
 
-impl<N, C> Split<View<N, C>> for Copy {
+impl<N, C> Split<View<Kind, N, C>> for Copy {
     ghost left = { λ v. v };
 
     ghost right = { copied };
@@ -101,7 +102,7 @@ impl<N, C> Split<View<N, C>> for Copy {
 /// A join of a copy into the other end's seat, which is told of its list.
 pub(crate) struct Tell;
 
-impl<N, C> Join<View<N, C>> for Tell {
+impl<N, C> Join<View<Kind, N, C>> for Tell {
     ghost both = { told };
 
     ghost spent = { spent };

@@ -83,7 +83,7 @@ impl<R: CoeffRing, M: Monomial> Writer<R, M> {
             return Err(Full);
         }
         let end = &mut self.end;
-        let bits = to_words(&ring.scalars.ring(), note);
+        let bits = to_words(&ring.scalars.coefficients(), note);
         write_note(ring, &mut end.seat, end.slot, &bits);
         ring.table
             .shared

@@ -2,7 +2,7 @@ use Rattle.std.proofs.Common.{rules, arith, ◌≡◌, ◌<◌, ◌+◌, ◌*◌
 use Rattle.std.proofs.lemmas.List.{take_more_set, length-take-le, take_all}
 use Rattle.term_ring.specs.Rule.{place, words_of_ring}
 use Rattle.term_ring.proofs.Lists.{place_below}
-use Rattle.term_ring.proofs.Keeps.{peeks}
+use Rattle.term_ring.proofs.RuleStays.{peeks}
 use Rattle.term_ring.proofs.reader.read_note.Goals as goal
 
 pub load-requires : goal.load-requires

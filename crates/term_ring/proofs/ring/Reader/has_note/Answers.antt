@@ -1,5 +1,5 @@
 use Rattle.std.proofs.Common.{arith}
-use Rattle.term_ring.proofs.Keeps.{looks_tail}
+use Rattle.term_ring.proofs.RuleStays.{looks_tail}
 use Rattle.term_ring.proofs.ring.Reader.has_note.Goals as goal
 
 pub load-end-requires : goal.load-end-requires

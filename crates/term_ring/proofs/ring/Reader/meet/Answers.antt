@@ -1,6 +1,6 @@
 use Rattle.std.proofs.Common.{arith, ap, ◌∙◌}
 use Rattle.term_ring.specs.Steps.{copy_of}
-use Rattle.term_ring.proofs.Keeps.{copies_sent, told_sent, looks_tail}
+use Rattle.term_ring.proofs.RuleStays.{copies_sent, told_sent, looks_tail}
 use Rattle.term_ring.proofs.ring.Reader.meet.Goals as goal
 
 pub split_seat-copy-requires : goal.split_seat-copy-requires

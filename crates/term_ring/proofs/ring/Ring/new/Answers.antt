@@ -1,7 +1,7 @@
 use Rattle.std.proofs.Common.{rules, arith, ◌≡◌, ◌<◌, ◌+◌, ◌*◌, ℕ, zero, suc, List, length, replicate, get_or, refl, ap, ◌∙◌}
 use Rattle.std.proofs.lemmas.Grind.{common_steps}
 use Rattle.term_ring.proofs.Carrying.{carries_none}
-use Rattle.term_ring.proofs.Keeps.{starts, parts}
+use Rattle.term_ring.proofs.RuleStays.{starts, parts}
 use Rattle.term_ring.proofs.ring.Ring.new.Goals as goal
 
 abbrev zeros : ℕ → List ℕ

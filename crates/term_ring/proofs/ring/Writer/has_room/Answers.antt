@@ -1,5 +1,5 @@
 use Rattle.std.proofs.Common.{arith}
-use Rattle.term_ring.proofs.Keeps.{looks_head}
+use Rattle.term_ring.proofs.RuleStays.{looks_head}
 use Rattle.term_ring.proofs.ring.Writer.has_room.Goals as goal
 
 pub load-end-requires : goal.load-end-requires

@@ -1,6 +1,6 @@
 use Rattle.std.proofs.Common.{arith, ap, ◌∙◌}
 use Rattle.term_ring.specs.Steps.{copy_of}
-use Rattle.term_ring.proofs.Keeps.{copies_taken, told_taken, looks_head}
+use Rattle.term_ring.proofs.RuleStays.{copies_taken, told_taken, looks_head}
 use Rattle.term_ring.proofs.ring.Writer.meet.Goals as goal
 
 pub split_seat-copy-requires : goal.split_seat-copy-requires

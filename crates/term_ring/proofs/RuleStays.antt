@@ -1,23 +1,24 @@
--- Each step keeps the rule of the ring.
+-- The rule of a ring stays at each step, and where seats are split and joined.
 use Rattle.std.proofs.Common.{◌≡◌, ◌≢◌, ℕ, zero, suc, ◌+◌, ◌-◌, ◌*◌, ◌%◌, ◌^◌, ◌<◌, ◌≤◌, List, [], ◌∷◌, ◌++◌, length, get_or, set, sym, refl, ap, ◌∙◌, subst, ⊎_elim, inl, inr, arith, Some, le_refl, length-set, length-append, get_or-set_other, get_or-set_same, append_assoc, append-nil}
 use mathlib.Core.List.{IsPrefix}
 use mathlib.Core.Logic.{dite}
 use mathlib.Core.Option.{none, some, some-injective, some-ne-none}
 use native.Mathlib.Decide.{ℕ_discrete}
 use lib.ListN.{get_elem?}
-use lib.Seq.{set-get_or}
 use Rattle.atomic_table.specs.Table.{State, Me, step, keeps, stepped, Allows, Splits, Joins, opening}
-use Rattle.atomic_table.proofs.Lists.{at_set, one_turn}
+use Rattle.atomic_table.proofs.Lists.{one_turn}
 use Rattle.term_ring.specs.declared.view.View.{View}
 use Rattle.term_ring.specs.declared.view.Kind.{Kind}
 use Rattle.term_ring.specs.declared.view.Kind.TheVariants.{Spent, First, Writing, Reading, SentCopy, TakenCopy}
 use Rattle.term_ring.specs.Rule.{place, words_of_ring, LeavesNoRoom, RisesWhere, WriterKnows, ReaderKnows, FirstKnows, KnowsAs, Knows, IsRing}
-use Rattle.term_ring.specs.Steps.{first, spent, writing, reading, copy_of, copied, told, LooksAtHead, Puts, Sends, LooksAtTail, Peeks, Takes}
+use Rattle.term_ring.specs.Steps.{first, spent, writing, reading, copy_of, copied, LooksAtHead, Puts, LooksAtTail, Takes}
+use Rattle.term_ring.specs.Views.{told, Sends, Peeks}
+use Rattle.term_ring.proofs.Seats.{SaysOfSeats, seats_stay, seats_more, other_at, knows, unmoved, split_off, join_in}
 use Rattle.term_ring.proofs.Lists.{prefix_self, prefix_trans, prefix_more, prefix_length, both_begin, at_snoc, first_of_longer, first_there, within, index_snoc_before, index_snoc_last, same_list, apart, place_below, place_above}
 
 module _ {N C : Type 0} (words : N → List ℕ) (script : C) (places : ℕ) where
   abbrev V : Type 0
-  V = View N C
+  V = View Kind N C
 
   -- what another seat knows stays, where the writer has sent more
   beside_writer : (taken inside inside' : List N) (stored stored' : List ℕ) (parted writer reader j : ℕ) → j ≢ writer → IsPrefix (taken ++ inside) (taken ++ inside') → length inside ≤ length inside' → parted ≡ 1
@@ -60,10 +61,6 @@ module _ {N C : Type 0} (words : N → List ℕ) (script : C) (places : ℕ) whe
   beside_reader taken taken' inside inside' stored parted writer reader j other same more begun v SentCopy h = (h.0, h.1 ∙ same)
   beside_reader taken taken' inside inside' stored parted writer reader j other same more begun v TakenCopy h = prefix_trans _ _ _ h more
 
-  seats_stay : (K : ℕ → V → Type 0) (vs : List V) (me : ℕ) (w : V) → K me w → ((j : ℕ) (v : V) → j ≢ me → get_elem? vs j ≡ some v → K j v) → (j : ℕ) (v : V) → get_elem? (set vs me w) j ≡ some v → K j v
-  seats_stay K vs me w mine others j v e = ⊎_elim (λ (t : (j ≡ me) × (w ≡ v)). subst (λ (x : ℕ × V). K x.0 x.1) (λ i. (sym t.0 i, t.1 i)) mine)
-      (λ (t : (j ≢ me) × (get_elem? vs j ≡ some v)). others j v t.0 t.1) (at_set vs me j w v e)
-
 -- the count of looks in vain, where the head is so
 counts_room : (head places sent vain : ℕ) → (after : ℕ) × RisesWhere (LeavesNoRoom head places sent) vain after
 counts_room head places sent vain = dite (ℕ_discrete (head + places) sent)
@@ -84,7 +81,7 @@ S = Unit {0}
 
 module _ {N C : Type 0} (words : N → List ℕ) (fits : C → N → Type 0) (carry : C → List N → Type 0) (script : C) (places : ℕ) where
   abbrev View' : Type 0
-  View' = View N C
+  View' = View Kind N C
 
   abbrev St : Type 0
   St = State S View'
@@ -95,48 +92,44 @@ module _ {N C : Type 0} (words : N → List ℕ) (fits : C → N → Type 0) (ca
   abbrev Rule : St → Type 0
   Rule = IsRing words fits carry script places
 
-  -- what the rule says of one seat, with this view
-  abbrev Says : (s : St) → Rule s → ℕ → View' → Type 0
-  Says s r = Knows words script places r.taken r.inside r.stored r.parted r.writer r.reader
-
+  -- what the rule says of a seat with this view, where it is of this kind
   abbrev SaysAs : (s : St) → Rule s → ℕ → View' → Kind → Type 0
   SaysAs s r = KnowsAs words script places r.taken r.inside r.stored r.parted r.writer r.reader
-
-  knows : (s : St) (r : Rule s) (id : ℕ) (v : View') (k : Kind) → get_elem? s.views id ≡ some v → v.kind ≡ k → SaysAs s r id v k
-  knows s r id v k at is = subst (SaysAs s r id v) is (r.each_seat id v at)
 
   sent_length : (s : St) (r : Rule s) → length (r.taken ++ r.inside) ≡ length r.taken + length r.inside
   sent_length s r = length-append r.taken r.inside
 
-  -- a step that changes no word
-  unmoved : (s : St) (r : Rule s) (i me : ℕ) (cs : List (ℕ × S)) (w : View') → Says s r me w → Rule (stepped s i (get_or s.words i 0) me cs w keeps)
-  unmoved s r i me cs w mine = subst (λ (ws : List ℕ). Rule record { words = ws; homes = s.homes; views = set s.views me w }) (sym (set-get_or s.words i 0)) record {
-    taken = r.taken;
-    inside = r.inside;
-    stored = r.stored;
-    parted = r.parted;
-    writer = r.writer;
-    reader = r.reader;
-    some_place = r.some_place;
-    wide = r.wide;
-    head_is = r.head_is;
-    tail_is = r.tail_is;
-    room = r.room;
-    few = r.few;
-    carried = r.carried;
-    good = r.good;
-    spelt = r.spelt;
-    short = r.short;
-    free = r.free;
-    next = r.next;
-    each_seat = seats_stay words script places (Says s r) s.views me w mine (λ j v _. r.each_seat j v);
+  seats : SaysOfSeats Rule (λ (v : View'). v.kind) SaysAs
+  seats = record {
+    each = λ s r. r.each_seat;
+    reseated = λ s r views all. record {
+      taken = r.taken;
+      inside = r.inside;
+      stored = r.stored;
+      parted = r.parted;
+      writer = r.writer;
+      reader = r.reader;
+      some_place = r.some_place;
+      wide = r.wide;
+      head_is = r.head_is;
+      tail_is = r.tail_is;
+      room = r.room;
+      few = r.few;
+      carried = r.carried;
+      good = r.good;
+      spelt = r.spelt;
+      short = r.short;
+      free = r.free;
+      next = r.next;
+      each_seat = all;
+    };
   }
 
   pub looks_head : (slots id : ℕ) (m : M) → m.0.kind ≡ Writing → Allows Rule slots id m 0 (λ x. x) (LooksAtHead (step slots 0 0 0 none) m)
   looks_head slots id m is s r _ at _ =
-      let p : WriterKnows script places r.taken r.inside r.stored r.parted r.writer id m.0 = knows s r id m.0 Writing at is in
+      let p : WriterKnows script places r.taken r.inside r.stored r.parted r.writer id m.0 = knows seats s r id m.0 Writing at is in
       let h : ℕ = get_or s.words 0 0 in let hi : h ≡ length r.taken = r.head_is in
-      let counted = counts_room h m.0.places (length m.0.notes) m.0.vain in let w : View' = record m.0 { seen = h; vain = counted.0 } in
+      let counted = counts_room h m.0.places (length m.0.notes) m.0.looks in let w : View' = record m.0 { seen = h; looks = counted.0 } in
       let all : length m.0.notes ≡ length r.taken + length r.inside = ap length p.all ∙ sent_length s r in
       let saw = p.saw in let room = r.room in let sized = p.sized in let heard = prefix_length m.0.told r.taken p.heard in
       let mine : WriterKnows script places r.taken r.inside r.stored r.parted r.writer id w = record {
@@ -152,7 +145,7 @@ module _ {N C : Type 0} (words : N → List ℕ) (fits : C → N → Type 0) (ca
         w,
         keeps,
         tt,
-        unmoved s r 0 id m.1 w (subst (SaysAs s r id w) (sym is) mine),
+        unmoved seats s r 0 id m.1 w (subst (SaysAs s r id w) (sym is) mine),
         (refl, counted.1, omega arith, omega arith, omega arith, omega arith, subst (IsPrefix m.0.told) (sym p.all) (prefix_trans m.0.told r.taken (r.taken ++ r.inside) p.heard (prefix_more r.taken r.inside))),
       )
 
@@ -160,7 +153,7 @@ module _ {N C : Type 0} (words : N → List ℕ) (fits : C → N → Type 0) (ca
   pens : (s : St) (r : Rule s) (id : ℕ) (m : M) (k i b : ℕ) (now : List ℕ) → get_elem? s.views id ≡ some m.0 → m.0.kind ≡ Writing → k < 5 → length m.0.notes < m.0.seen + m.0.places → i ≡ place m.0.places (length m.0.notes) k
       → k ≤ length m.0.words → length now ≡ k + 1 → ((c : ℕ) → c < k → get_or now c 0 ≡ get_or m.0.words c 0) → get_or now k 0 ≡ b → Rule (stepped s i b id m.1 (record m.0 { words = now }) keeps)
   pens s r id m k i b now at is few room here known longer_now before last =
-      let p : WriterKnows script places r.taken r.inside r.stored r.parted r.writer id m.0 = knows s r id m.0 Writing at is in
+      let p : WriterKnows script places r.taken r.inside r.stored r.parted r.writer id m.0 = knows seats s r id m.0 Writing at is in
       let w : View' = record m.0 { words = now } in
       let all : length m.0.notes ≡ length r.taken + length r.inside = ap length p.all ∙ sent_length s r in
       let saw = p.saw in let sized = p.sized in let wide = r.wide in let some_place = r.some_place in
@@ -205,7 +198,7 @@ module _ {N C : Type 0} (words : N → List ℕ) (fits : C → N → Type 0) (ca
             get_or-set_other s.words i (place places (length r.taken + length r.inside) c) b 0
             (λ same. let x : ℕ = (length r.taken + length r.inside) % places in let same' : 32 + 5 * x + c ≡ 32 + 5 * x + k = same ∙ at_here in ne (omega arith))
             ∙ (r.next c (omega arith) ∙ (ap (λ l. get_or l c 0) (sym p.wrote) ∙ sym (before c first))));
-        each_seat = seats_stay words script places (Knows words script places r.taken r.inside now r.parted r.writer r.reader) s.views id w (subst (KnowsAs words script places r.taken r.inside now r.parted r.writer r.reader id w) (sym is) mine)
+        each_seat = seats_stay (Knows words script places r.taken r.inside now r.parted r.writer r.reader) s.views id w (subst (KnowsAs words script places r.taken r.inside now r.parted r.writer r.reader id w) (sym is) mine)
             (λ j v other e. beside_writer words script places r.taken r.inside r.inside r.stored now r.parted r.writer r.reader j (λ same. other (same ∙ sym p.mine)) (prefix_self (r.taken ++ r.inside)) (le_refl _) p.begun (λ n first _. first) v v.kind
             (r.each_seat j v e));
       }
@@ -234,10 +227,10 @@ module _ {N C : Type 0} (words : N → List ℕ) (fits : C → N → Type 0) (ca
         refl,
       )
 
-  pub posts : (slots id : ℕ) (m : M) (n : N) (new : ℕ) → m.0.kind ≡ Writing → words n ≡ m.0.words → length m.0.words ≡ 5 → m.0.script ≡ Some script → fits script n → carry script (m.0.notes ++ n ∷ [])
+  pub posts : (slots id : ℕ) (m : M) (n : N) (new : ℕ) → m.0.kind ≡ Writing → words n ≡ m.0.words → length m.0.words ≡ 5 → m.0.subject ≡ Some script → fits script n → carry script (m.0.notes ++ n ∷ [])
       → new ≡ length m.0.notes + 1 → new ≤ 2 ^ 63 → Allows Rule slots id m 16 (λ _. new) (λ _. Sends words fits (step slots 16 new 0 none) m new)
   posts slots id m n new is spell long scripted fit carried up enough s r _ at _ =
-      let p : WriterKnows script places r.taken r.inside r.stored r.parted r.writer id m.0 = knows s r id m.0 Writing at is in
+      let p : WriterKnows script places r.taken r.inside r.stored r.parted r.writer id m.0 = knows seats s r id m.0 Writing at is in
       let w : View' = record m.0 { notes = m.0.notes ++ n ∷ []; words = [] } in let now : List N = r.inside ++ n ∷ [] in
       let all : length m.0.notes ≡ length r.taken + length r.inside = ap length p.all ∙ sent_length s r in
       let wide = r.wide in let some_place = r.some_place in
@@ -281,7 +274,7 @@ module _ {N C : Type 0} (words : N → List ℕ) (fits : C → N → Type 0) (ca
           short = omega arith;
           free = λ z. absurd (omega arith);
           next = λ c z. absurd (omega arith);
-          each_seat = seats_stay words script places (Knows words script places r.taken now [] r.parted r.writer r.reader) s.views id w (subst (KnowsAs words script places r.taken now [] r.parted r.writer r.reader id w) (sym is) mine)
+          each_seat = seats_stay (Knows words script places r.taken now [] r.parted r.writer r.reader) s.views id w (subst (KnowsAs words script places r.taken now [] r.parted r.writer r.reader id w) (sym is) mine)
               (λ j v other e. beside_writer words script places r.taken r.inside now r.stored [] r.parted r.writer r.reader j (λ same. other (same ∙ sym p.mine)) (n ∷ [], append_assoc r.taken r.inside (n ∷ [])) (omega arith) p.begun
               (λ x first some_inside. first_of_longer r.inside n x some_inside first) v v.kind (r.each_seat j v e));
         },
@@ -290,9 +283,9 @@ module _ {N C : Type 0} (words : N → List ℕ) (fits : C → N → Type 0) (ca
 
   pub looks_tail : (slots id : ℕ) (m : M) → m.0.kind ≡ Reading → Allows Rule slots id m 16 (λ x. x) (LooksAtTail (step slots 16 0 0 none) m)
   looks_tail slots id m is s r _ at _ =
-      let p : ReaderKnows words script places r.taken r.inside r.parted r.reader id m.0 = knows s r id m.0 Reading at is in
+      let p : ReaderKnows words script places r.taken r.inside r.parted r.reader id m.0 = knows seats s r id m.0 Reading at is in
       let h : ℕ = get_or s.words 16 0 in let hi : h ≡ length r.taken + length r.inside = r.tail_is in
-      let counted = counts_none h (length m.0.notes) m.0.vain in let w : View' = record m.0 { seen = h; vain = counted.0 } in
+      let counted = counts_none h (length m.0.notes) m.0.looks in let w : View' = record m.0 { seen = h; looks = counted.0 } in
       let all : length m.0.notes ≡ length r.taken = ap length p.all in
       let saw = p.saw in let room = r.room in let sized = p.sized in
       let heard : length m.0.told ≤ length r.taken + length r.inside = subst (λ (z : ℕ). length m.0.told ≤ z) (sent_length s r) (prefix_length m.0.told (r.taken ++ r.inside) p.heard) in
@@ -311,7 +304,7 @@ module _ {N C : Type 0} (words : N → List ℕ) (fits : C → N → Type 0) (ca
         w,
         keeps,
         tt,
-        unmoved s r 16 id m.1 w (subst (SaysAs s r id w) (sym is) mine),
+        unmoved seats s r 16 id m.1 w (subst (SaysAs s r id w) (sym is) mine),
         (refl, counted.1, omega arith, omega arith, omega arith, omega (arith, r.few), omega arith, both_begin m.0.notes m.0.told (r.taken ++ r.inside) (r.inside, ap (λ l. l ++ r.inside) p.all) p.heard),
       )
 
@@ -322,7 +315,7 @@ module _ {N C : Type 0} (words : N → List ℕ) (fits : C → N → Type 0) (ca
   pub peeks : (slots id : ℕ) (m : M) (k i : ℕ) → m.0.kind ≡ Reading → length m.0.words ≡ k → k < 5 → length m.0.notes < m.0.seen → i ≡ place m.0.places (length m.0.notes) k
       → Allows Rule slots id m i (λ x. x) (Peeks (step slots i 0 0 none) m)
   peeks slots id m k i is long few ahead here s r _ at _ =
-      let p : ReaderKnows words script places r.taken r.inside r.parted r.reader id m.0 = knows s r id m.0 Reading at is in
+      let p : ReaderKnows words script places r.taken r.inside r.parted r.reader id m.0 = knows seats s r id m.0 Reading at is in
       let b : ℕ = get_or s.words i 0 in
       let w : View' = record m.0 { words = m.0.words ++ b ∷ [] } in
       let all : length m.0.notes ≡ length r.taken = ap length p.all in let sized = p.sized in
@@ -347,14 +340,14 @@ module _ {N C : Type 0} (words : N → List ℕ) (fits : C → N → Type 0) (ca
         w,
         keeps,
         tt,
-        unmoved s r i id m.1 w (subst (SaysAs s r id w) (sym is) mine),
+        unmoved seats s r i id m.1 w (subst (SaysAs s r id w) (sym is) mine),
         refl,
       )
 
-  pub takes_note : (slots id : ℕ) (m : M) (new : ℕ) → m.0.kind ≡ Reading → length m.0.words ≡ 5 → m.0.script ≡ Some script → length m.0.notes < m.0.seen → new ≡ length m.0.notes + 1
+  pub takes_note : (slots id : ℕ) (m : M) (new : ℕ) → m.0.kind ≡ Reading → length m.0.words ≡ 5 → m.0.subject ≡ Some script → length m.0.notes < m.0.seen → new ≡ length m.0.notes + 1
       → Allows Rule slots id m 0 (λ _. new) (λ _. Takes words fits carry (step slots 0 new 0 none) m new)
   takes_note slots id m new is long scripted ahead up s r _ at _ =
-      let p : ReaderKnows words script places r.taken r.inside r.parted r.reader id m.0 = knows s r id m.0 Reading at is in
+      let p : ReaderKnows words script places r.taken r.inside r.parted r.reader id m.0 = knows seats s r id m.0 Reading at is in
       let all : length m.0.notes ≡ length r.taken = ap length p.all in let wide = r.wide in let some_place = r.some_place in let room = r.room in
       let there = first_there r.inside (ahead_is s r id m.0 p ahead) in let n : N = there.0 in let rest : List N = there.1 in let split : r.inside ≡ n ∷ rest = there.2 in
       let here : get_elem? r.inside 0 ≡ some n = ap (λ l. get_elem? l 0) split in
@@ -404,7 +397,7 @@ module _ {N C : Type 0} (words : N → List ℕ) (fits : C → N → Type 0) (ca
           free = λ z. let f = r.free z in omega arith;
           next = λ c l. get_or-set_other s.words 0 (place places (length now + length rest) c) new 0 (λ h. let a = place_above places (length now + length rest) c in omega arith)
               ∙ (ap (λ (z : ℕ). get_or s.words (place places z c) 0) (omega arith) ∙ r.next c l);
-          each_seat = seats_stay words script places (Knows words script places now rest r.stored r.parted r.writer r.reader) s.views id w (subst (KnowsAs words script places now rest r.stored r.parted r.writer r.reader id w) (sym is) mine)
+          each_seat = seats_stay (Knows words script places now rest r.stored r.parted r.writer r.reader) s.views id w (subst (KnowsAs words script places now rest r.stored r.parted r.writer r.reader id w) (sym is) mine)
               (λ j v other e. beside_reader words script places r.taken now r.inside rest r.stored r.parted r.writer r.reader j (λ h. other (h ∙ sym p.mine)) same (n ∷ [], refl) p.begun v v.kind (r.each_seat j v e));
         },
         (
@@ -454,7 +447,7 @@ module _ {N C : Type 0} (words : N → List ℕ) (fits : C → N → Type 0) (ca
   begins_alone s r j reader unbegun other v TakenCopy h = h
 
   pub parts : (id : ℕ) (v : View') → v.kind ≡ First → Splits Rule id v (writing v) (reading v)
-  parts id v is s r at = let p : FirstKnows script places r.taken r.inside r.stored r.parted r.writer id v = knows s r id v First at is in
+  parts id v is s r at = let p : FirstKnows script places r.taken r.inside r.stored r.parted r.writer id v = knows seats s r id v First at is in
       let n : ℕ = length (set s.views id (writing v)) in let K = Knows words script places r.taken r.inside r.stored 1 r.writer n in
       let pen : WriterKnows script places r.taken r.inside r.stored 1 r.writer id (writing v) = record {
         begun = refl;
@@ -497,76 +490,21 @@ module _ {N C : Type 0} (words : N → List ℕ) (fits : C → N → Type 0) (ca
         short = r.short;
         free = r.free;
         next = r.next;
-        each_seat = λ j u e. ⊎_elim
-            (λ (t : get_elem? (set s.views id (writing v)) j ≡ some u). seats_stay words script places K s.views id (writing v) pen (λ i x other there. begins_alone s r i n p.unbegun (λ h. other (h ∙ sym p.mine)) x x.kind (r.each_seat i x there)) j u t)
-            (λ (t : (j ≡ n) × (reading v ≡ u)). subst (λ (x : ℕ × View'). K x.0 x.1) (λ i. (sym t.0 i, t.1 i)) eye)
-            (at_snoc (set s.views id (writing v)) (reading v) u j e);
+        each_seat = seats_more K (set s.views id (writing v)) (reading v) eye
+            (seats_stay K s.views id (writing v) pen (λ j x other there. begins_alone s r j n p.unbegun (λ h. other (h ∙ sym p.mine)) x x.kind (r.each_seat j x there)));
       }
 
-  -- a seat is split, and the new one has the view w
-  split_off : (s : St) (r : Rule s) (id : ℕ) (v w : View') → get_elem? s.views id ≡ some v → ((j : ℕ) → Says s r j w) → Rule record { words = s.words; homes = s.homes; views = set s.views id v ++ w ∷ [] }
-  split_off s r id v w at knows_w = record {
-    taken = r.taken;
-    inside = r.inside;
-    stored = r.stored;
-    parted = r.parted;
-    writer = r.writer;
-    reader = r.reader;
-    some_place = r.some_place;
-    wide = r.wide;
-    head_is = r.head_is;
-    tail_is = r.tail_is;
-    room = r.room;
-    few = r.few;
-    carried = r.carried;
-    good = r.good;
-    spelt = r.spelt;
-    short = r.short;
-    free = r.free;
-    next = r.next;
-    each_seat = λ j u e. ⊎_elim (λ (t : get_elem? (set s.views id v) j ≡ some u). seats_stay words script places (Says s r) s.views id v (r.each_seat id v at) (λ i x _ there. r.each_seat i x there) j u t)
-        (λ (t : (j ≡ length (set s.views id v)) × (w ≡ u)). subst (Says s r j) t.1 (knows_w j)) (at_snoc (set s.views id v) w u j e);
-  }
-
   pub copies_sent : (id : ℕ) (v : View') → v.kind ≡ Writing → Splits Rule id v v (copied v)
-  copies_sent id v is s r at = let p : WriterKnows script places r.taken r.inside r.stored r.parted r.writer id v = knows s r id v Writing at is in
-      split_off s r id v (copied v) at (λ j. subst (λ k. SaysAs s r j (copied v) (copy_of k)) (sym is) ([], append-nil v.notes ∙ p.all))
+  copies_sent id v is s r at = let p : WriterKnows script places r.taken r.inside r.stored r.parted r.writer id v = knows seats s r id v Writing at is in
+      split_off seats s r id v (copied v) at (λ j. subst (λ k. SaysAs s r j (copied v) (copy_of k)) (sym is) ([], append-nil v.notes ∙ p.all))
 
   pub copies_taken : (id : ℕ) (v : View') → v.kind ≡ Reading → Splits Rule id v v (copied v)
-  copies_taken id v is s r at = let p : ReaderKnows words script places r.taken r.inside r.parted r.reader id v = knows s r id v Reading at is in
-      split_off s r id v (copied v) at (λ j. subst (λ k. SaysAs s r j (copied v) (copy_of k)) (sym is) ([], append-nil v.notes ∙ p.all))
-
-  -- a seat takes in another, which is spent
-  join_in : (s : St) (r : Rule s) (id other : ℕ) (v : View') → Says s r id v → Rule record { words = s.words; homes = s.homes; views = set (set s.views id v) other spent }
-  join_in s r id other v mine = record {
-    taken = r.taken;
-    inside = r.inside;
-    stored = r.stored;
-    parted = r.parted;
-    writer = r.writer;
-    reader = r.reader;
-    some_place = r.some_place;
-    wide = r.wide;
-    head_is = r.head_is;
-    tail_is = r.tail_is;
-    room = r.room;
-    few = r.few;
-    carried = r.carried;
-    good = r.good;
-    spelt = r.spelt;
-    short = r.short;
-    free = r.free;
-    next = r.next;
-    each_seat = seats_stay words script places (Says s r) (set s.views id v) other spent tt (λ j u _ e. seats_stay words script places (Says s r) s.views id v mine (λ i x _ there. r.each_seat i x there) j u e);
-  }
-
-  -- the view of the seat that is taken in
-  other_at : (s : St) (id other : ℕ) (v w : View') → ¬ (other ≡ id) → get_elem? (set s.views id v) other ≡ some w → get_elem? s.views other ≡ some w
-  other_at s id other v w not_me e = ⊎_elim (λ (t : (other ≡ id) × (v ≡ w)). absurd (not_me t.0)) (λ (t : (other ≢ id) × (get_elem? s.views other ≡ some w)). t.1) (at_set s.views id other v w e)
+  copies_taken id v is s r at = let p : ReaderKnows words script places r.taken r.inside r.parted r.reader id v = knows seats s r id v Reading at is in
+      split_off seats s r id v (copied v) at (λ j. subst (λ k. SaysAs s r j (copied v) (copy_of k)) (sym is) ([], append-nil v.notes ∙ p.all))
 
   pub told_sent : (id : ℕ) (v : View') (other : ℕ) (w : View') → v.kind ≡ Reading → w.kind ≡ SentCopy → Joins Rule id v other w (told v w) spent
-  told_sent id v other w is copy s r at not_me there = let p : ReaderKnows words script places r.taken r.inside r.parted r.reader id v = knows s r id v Reading at is in
-      let heard : IsPrefix w.notes (r.taken ++ r.inside) = knows s r other w SentCopy (other_at s id other (told v w) w not_me there) copy in
+  told_sent id v other w is copy s r at not_me there = let p : ReaderKnows words script places r.taken r.inside r.parted r.reader id v = knows seats s r id v Reading at is in
+      let heard : IsPrefix w.notes (r.taken ++ r.inside) = knows seats s r other w SentCopy (other_at s.views id other (told v w) w not_me there) copy in
       let mine : ReaderKnows words script places r.taken r.inside r.parted r.reader id (told v w) = record {
         begun = p.begun;
         mine = p.mine;
@@ -578,11 +516,11 @@ module _ {N C : Type 0} (words : N → List ℕ) (fits : C → N → Type 0) (ca
         ahead = p.ahead;
         read = p.read;
         heard = heard;
-      } in join_in s r id other (told v w) (subst (SaysAs s r id (told v w)) (sym is) mine)
+      } in join_in seats s r id other (told v w) spent (subst (SaysAs s r id (told v w)) (sym is) mine) tt
 
   pub told_taken : (id : ℕ) (v : View') (other : ℕ) (w : View') → v.kind ≡ Writing → w.kind ≡ TakenCopy → Joins Rule id v other w (told v w) spent
-  told_taken id v other w is copy s r at not_me there = let p : WriterKnows script places r.taken r.inside r.stored r.parted r.writer id v = knows s r id v Writing at is in
-      let heard : IsPrefix w.notes r.taken = knows s r other w TakenCopy (other_at s id other (told v w) w not_me there) copy in
+  told_taken id v other w is copy s r at not_me there = let p : WriterKnows script places r.taken r.inside r.stored r.parted r.writer id v = knows seats s r id v Writing at is in
+      let heard : IsPrefix w.notes r.taken = knows seats s r other w TakenCopy (other_at s.views id other (told v w) w not_me there) copy in
       let mine : WriterKnows script places r.taken r.inside r.stored r.parted r.writer id (told v w) = record {
         begun = p.begun;
         mine = p.mine;
@@ -592,4 +530,4 @@ module _ {N C : Type 0} (words : N → List ℕ) (fits : C → N → Type 0) (ca
         saw = p.saw;
         wrote = p.wrote;
         heard = heard;
-      } in join_in s r id other (told v w) (subst (SaysAs s r id (told v w)) (sym is) mine)
+      } in join_in seats s r id other (told v w) spent (subst (SaysAs s r id (told v w)) (sym is) mine) tt

@@ -1,53 +1,22 @@
 //! The rule of the table, and what each kind of step on it tells.
-ghost use Rattle.std.specs.Prelude.{◌≡◌};
-ghost use Rattle.quotient_row.specs.Names.{row_name};
 ghost use Rattle.quotient_row.specs.Spelling.{words_of};
 ghost use Rattle.quotient_row.specs.Legal.{Fits, Legal};
 ghost use Rattle.quotient_row.specs.Rule.{IsRow};
-ghost use Rattle.quotient_row.specs.Steps.{first, spent, fresh, copied, told, Puts, Publishes, Checks, LooksAtCount, Peeks, Learns};
+ghost use Rattle.quotient_row.specs.Steps.{first, spent, fresh, copied, Puts, Checks, LooksAtCount, Learns};
+ghost use Rattle.term_ring.specs.Views.{told, Peeks, Sends};
 
+use crate::kind::Kind;
+use crate::name::Name;
 use crate::note::RowNote;
-use crate::view::View;
 use atomic_table::{Join, Play, Split, TableRule};
-use canonical_terms::Poly;
 use coeff_ring::CoeffRing;
 use packed_monomial::Monomial;
-use sdmp_laws::Mode;
-use std::marker::{Model, PhantomData};
+use std::marker::PhantomData;
 use std::snapshot::Snapshot;
-
-/// Which division a row is for, and how many quotient terms came before it. It outlives the polynomials; contracts see it as plain data.
-#[derive(Drop)]
-pub struct Name<R: CoeffRing, M: Monomial> {
-    f: Snapshot<Poly<R, M>>,
-    g: Snapshot<Poly<R, M>>,
-    mode: Mode,
-    start: u32,
-}
-
-impl<R: CoeffRing, M: Monomial> Model for Name<R, M> {
-    ghost use Rattle.quotient_row.specs.Names.{RowName, row_name};
-
-    ghost Value = { RowName };
-
-    ghost view = { λ n. row_name M.order M.VARS n.f.value n.g.value n.mode n.start };
-}
-
-impl<R: CoeffRing, M: Monomial> Name<R, M> {
-    pub(crate) fn of(f: &Poly<R, M>, g: &Poly<R, M>, mode: Mode, start: u32) -> Name<R, M>
-        ensures { result ≡ row_name M.order M.VARS f.now g.now mode start }
-    {
-        Name {
-            f: Snapshot::of(f),
-            g: Snapshot::of(g),
-            mode,
-            start,
-        }
-    }
-}
+use term_ring::View;
 
 /// What a seat of a row's table knows.
-pub(crate) type RowView<R, M> = View<RowNote<R, M>, Name<R, M>>;
+pub(crate) type RowView<R, M> = View<Kind, RowNote<R, M>, Name<R, M>>;
 
 /// What the table is told when it is made.
 #[derive(Drop)]
@@ -70,7 +39,7 @@ impl<R: CoeffRing, M: Monomial> TableRule<(), RowView<R, M>, Key<R, M>> for RowR
 /// A store of a word of the next note.
 pub(crate) struct Put;
 
-impl<N, C> Play<(), View<N, C>> for Put {
+impl<N, C> Play<(), View<Kind, N, C>> for Put {
     ghost then = { Puts };
 }
 
@@ -80,27 +49,27 @@ pub(crate) struct Publish<R, M> {
 }
 
 impl<R: CoeffRing, M: Monomial> Play<(), RowView<R, M>> for Publish<R, M> {
-    ghost then = { Publishes (words_of M.words R.words) (Fits R.belongs) };
+    ghost then = { Sends (words_of M.words R.words) (Fits R.belongs) };
 }
 
 /// A load of the count by the writer, which changes nothing of its view.
 pub(crate) struct Check;
 
-impl<N, C> Play<(), View<N, C>> for Check {
+impl<N, C> Play<(), View<Kind, N, C>> for Check {
     ghost then = { Checks };
 }
 
 /// A load of the count by a reader.
 pub(crate) struct LookAtCount;
 
-impl<N, C> Play<(), View<N, C>> for LookAtCount {
+impl<N, C> Play<(), View<Kind, N, C>> for LookAtCount {
     ghost then = { LooksAtCount };
 }
 
 /// A load of one of the first four words of the next note.
 pub(crate) struct Peek;
 
-impl<N, C> Play<(), View<N, C>> for Peek {
+impl<N, C> Play<(), View<Kind, N, C>> for Peek {
     ghost then = { Peeks };
 }
 
@@ -116,7 +85,7 @@ impl<R: CoeffRing, M: Monomial> Play<(), RowView<R, M>> for Learn<R, M> {
 /// A split of the writer's seat: a new reader, which knows nothing.
 pub(crate) struct NewReader;
 
-impl<N, C> Split<View<N, C>> for NewReader {
+impl<N, C> Split<View<Kind, N, C>> for NewReader {
     ghost left = { λ v. v };
 
     ghost right = { fresh };
@@ -125,7 +94,7 @@ impl<N, C> Split<View<N, C>> for NewReader {
 /// A split of an end's seat: the new one has a copy of what it published or knows.
 pub(crate) struct Copy;
 
-impl<N, C> Split<View<N, C>> for Copy {
+impl<N, C> Split<View<Kind, N, C>> for Copy {
     ghost left = { λ v. v };
 
     ghost right = { copied };
@@ -134,7 +103,7 @@ impl<N, C> Split<View<N, C>> for Copy {
 /// A join of a copy into the other end's seat, which is told of its list.
 pub(crate) struct Tell;
 
-impl<N, C> Join<View<N, C>> for Tell {
+impl<N, C> Join<View<Kind, N, C>> for Tell {
     ghost both = { told };
 
     ghost spent = { spent };

@@ -1,19 +1,19 @@
--- Each step keeps the rule of the row.
+-- The rule of a row stays at each step, and where seats are split and joined.
 use Rattle.std.proofs.Common.{◌≡◌, ◌≢◌, ℕ, zero, suc, ◌+◌, ◌*◌, ◌<◌, List, [], ◌∷◌, ◌++◌, length, get_or, set, sym, refl, ap, ◌∙◌, subst, ⊎_elim, arith, Some, length-set, length-append, get_or-set_other, get_or-set_same, append_assoc, append-nil}
 use mathlib.Core.List.{IsPrefix}
 use mathlib.Core.Logic.{dite}
 use mathlib.Core.Option.{none, some, some-injective, some-ne-none}
 use native.Mathlib.Decide.{ℕ_discrete}
 use lib.ListN.{get_elem?}
-use lib.Seq.{set-get_or}
-use Rattle.atomic_table.specs.Table.{State, Me, step, keeps, stepped, Allows, Splits, Joins, opening}
-use Rattle.atomic_table.proofs.Lists.{at_set}
+use Rattle.atomic_table.specs.Table.{State, Me, step, keeps, Allows, Splits, Joins, opening}
+use Rattle.term_ring.specs.Views.{told, Sends, Peeks}
+use Rattle.term_ring.proofs.Seats.{SaysOfSeats, seats_stay, other_at, knows, unmoved, split_off, join_in}
 use Rattle.term_ring.proofs.Lists.{prefix_trans, prefix_more, prefix_length, both_begin, at_snoc, first_there, within, index_snoc_before, index_snoc_last, same_list}
-use Rattle.quotient_row.specs.declared.view.View.{View}
-use Rattle.quotient_row.specs.declared.view.Kind.{Kind}
-use Rattle.quotient_row.specs.declared.view.Kind.TheVariants.{Spent, Publishing, Looking, Copied}
+use Rattle.term_ring.specs.declared.view.View.{View}
+use Rattle.quotient_row.specs.declared.kind.Kind.{Kind}
+use Rattle.quotient_row.specs.declared.kind.Kind.TheVariants.{Spent, Publishing, Looking, Copied}
 use Rattle.quotient_row.specs.Rule.{place, WriterKnows, ReaderKnows, KnowsAs, Knows, IsRow}
-use Rattle.quotient_row.specs.Steps.{first, spent, fresh, copied, told, Puts, Publishes, Checks, LooksAtCount, Peeks, Learns}
+use Rattle.quotient_row.specs.Steps.{first, spent, fresh, copied, Puts, Checks, LooksAtCount, Learns}
 
 module _ {A : Type 0} where
   -- the element after a beginning
@@ -29,7 +29,7 @@ module _ {A : Type 0} where
 
 module _ {N C : Type 0} (words : N → List ℕ) (name : C) (places : ℕ) where
   abbrev V : Type 0
-  V = View N C
+  V = View Kind N C
 
   -- what another seat knows stays, where the writer has published more
   beside_writer : (notes more : List N) (stored stored' : List ℕ) (writer j : ℕ) → j ≢ writer → (v : V) (k : Kind)
@@ -47,16 +47,13 @@ module _ {N C : Type 0} (words : N → List ℕ) (name : C) (places : ℕ) where
   beside_writer notes more stored stored' writer j other v Copied h = prefix_trans _ _ _ h (prefix_more notes more)
   beside_writer notes more stored stored' writer j other v Spent h = tt
 
-  seats_stay : (K : ℕ → V → Type 0) (vs : List V) (me : ℕ) (w : V) → K me w → ((j : ℕ) (v : V) → j ≢ me → get_elem? vs j ≡ some v → K j v) → (j : ℕ) (v : V) → get_elem? (set vs me w) j ≡ some v → K j v
-  seats_stay K vs me w mine others j v e = ⊎_elim (λ (t : (j ≡ me) × (w ≡ v)). subst (λ (x : ℕ × V). K x.0 x.1) (λ i. (sym t.0 i, t.1 i)) mine)
-      (λ (t : (j ≢ me) × (get_elem? vs j ≡ some v)). others j v t.0 t.1) (at_set vs me j w v e)
-
+-- the table has no slots
 abbrev S : Type 0
 S = Unit {0}
 
 module _ {N C : Type 0} (words : N → List ℕ) (fits : C → N → Type 0) (legal : C → List N → Type 0) (name : C) (places : ℕ) where
   abbrev View' : Type 0
-  View' = View N C
+  View' = View Kind N C
 
   abbrev St : Type 0
   St = State S View'
@@ -67,39 +64,33 @@ module _ {N C : Type 0} (words : N → List ℕ) (fits : C → N → Type 0) (le
   abbrev Rule : St → Type 0
   Rule = IsRow words fits legal name places
 
-  abbrev Says : (s : St) → Rule s → ℕ → View' → Type 0
-  Says s r = Knows words name places r.notes r.stored r.writer
-
+  -- what the rule says of a seat with this view, where it is of this kind
   abbrev SaysAs : (s : St) → Rule s → ℕ → View' → Kind → Type 0
   SaysAs s r = KnowsAs words name places r.notes r.stored r.writer
 
-  knows : (s : St) (r : Rule s) (id : ℕ) (v : View') (k : Kind) → get_elem? s.views id ≡ some v → v.kind ≡ k → SaysAs s r id v k
-  knows s r id v k at is = subst (SaysAs s r id v) is (r.each_seat id v at)
-
-  -- the words stay, and the views become these
-  reseated : (s : St) (r : Rule s) (ws : List ℕ) (views : List View') → ws ≡ s.words → ((j : ℕ) (v : View') → get_elem? views j ≡ some v → Says s r j v) → Rule record { words = ws; homes = s.homes; views = views }
-  reseated s r ws views same all = subst (λ (us : List ℕ). Rule record { words = us; homes = s.homes; views = views }) (sym same) record {
-    notes = r.notes;
-    stored = r.stored;
-    writer = r.writer;
-    wide = r.wide;
-    count_is = r.count_is;
-    room = r.room;
-    lawful = r.lawful;
-    good = r.good;
-    spelt = r.spelt;
-    free = r.free;
-    next = r.next;
-    each_seat = all;
+  seats : SaysOfSeats Rule (λ (v : View'). v.kind) SaysAs
+  seats = record {
+    each = λ s r. r.each_seat;
+    reseated = λ s r views all. record {
+      notes = r.notes;
+      stored = r.stored;
+      writer = r.writer;
+      wide = r.wide;
+      count_is = r.count_is;
+      room = r.room;
+      lawful = r.lawful;
+      good = r.good;
+      spelt = r.spelt;
+      free = r.free;
+      next = r.next;
+      each_seat = all;
+    };
   }
-
-  unmoved : (s : St) (r : Rule s) (i me : ℕ) (cs : List (ℕ × S)) (w : View') → Says s r me w → Rule (stepped s i (get_or s.words i 0) me cs w keeps)
-  unmoved s r i me cs w mine = reseated s r (set s.words i (get_or s.words i 0)) (set s.views me w) (set-get_or s.words i 0) (seats_stay words name places (Says s r) s.views me w mine (λ j v _. r.each_seat j v))
 
   pub puts : (slots id : ℕ) (m : M) (k i b : ℕ) → m.0.kind ≡ Publishing → length m.0.words ≡ k → k < 5 → length m.0.notes < m.0.places → i ≡ place (length m.0.notes) k
       → Allows Rule slots id m i (λ _. b) (λ _. Puts (step slots i b 0 none) m b)
   puts slots id m k i b is long few room here s r _ at _ =
-      let p : WriterKnows name places r.notes r.stored r.writer id m.0 = knows s r id m.0 Publishing at is in
+      let p : WriterKnows name places r.notes r.stored r.writer id m.0 = knows seats s r id m.0 Publishing at is in
       let w : View' = record m.0 { words = m.0.words ++ b ∷ [] } in let now : List ℕ = r.stored ++ b ∷ [] in
       let all : length m.0.notes ≡ length r.notes = ap length p.all in let sized = p.sized in let wide = r.wide in
       let kept : length r.stored ≡ k = ap length (sym p.wrote) ∙ long in
@@ -131,16 +122,16 @@ module _ {N C : Type 0} (words : N → List ℕ) (fits : C → N → Type 0) (le
           next = λ c l. dite (ℕ_discrete c k)
               (λ e. ap (λ (z : ℕ). get_or (set s.words i b) z 0) (ap (place (length r.notes)) e ∙ sym at_here) ∙ (get_or-set_same s.words i b 0 high ∙ sym (index_snoc_last r.stored b c (e ∙ sym kept))))
               (λ ne. let before : c < length r.stored = omega arith in get_or-set_other s.words i (place (length r.notes) c) b 0 (λ same. ne (omega arith)) ∙ (r.next c before ∙ sym (index_snoc_before r.stored b c before)));
-          each_seat = seats_stay words name places (Knows words name places r.notes now r.writer) s.views id w (subst (KnowsAs words name places r.notes now r.writer id w) (sym is) mine)
+          each_seat = seats_stay (Knows words name places r.notes now r.writer) s.views id w (subst (KnowsAs words name places r.notes now r.writer id w) (sym is) mine)
               (λ j v other e. subst (λ l. KnowsAs words name places l now r.writer j v v.kind) (append-nil r.notes) (beside_writer words name places r.notes [] r.stored now r.writer j (λ same. other (same ∙ sym p.mine)) v v.kind (r.each_seat j v e)));
         },
         refl,
       )
 
-  pub publishes : (slots id : ℕ) (m : M) (n : N) (new : ℕ) → m.0.kind ≡ Publishing → words n ≡ m.0.words → length m.0.words ≡ 5 → m.0.name ≡ Some name → fits name n → legal name (m.0.notes ++ n ∷ [])
-      → new ≡ length m.0.notes + 1 → Allows Rule slots id m 0 (λ _. new) (λ _. Publishes words fits (step slots 0 new 0 none) m new)
+  pub publishes : (slots id : ℕ) (m : M) (n : N) (new : ℕ) → m.0.kind ≡ Publishing → words n ≡ m.0.words → length m.0.words ≡ 5 → m.0.subject ≡ Some name → fits name n → legal name (m.0.notes ++ n ∷ [])
+      → new ≡ length m.0.notes + 1 → Allows Rule slots id m 0 (λ _. new) (λ _. Sends words fits (step slots 0 new 0 none) m new)
   publishes slots id m n new is spell long named fit lawful up s r _ at _ =
-      let p : WriterKnows name places r.notes r.stored r.writer id m.0 = knows s r id m.0 Publishing at is in
+      let p : WriterKnows name places r.notes r.stored r.writer id m.0 = knows seats s r id m.0 Publishing at is in
       let w : View' = record m.0 { notes = m.0.notes ++ n ∷ []; words = [] } in let now : List N = r.notes ++ n ∷ [] in
       let all : length m.0.notes ≡ length r.notes = ap length p.all in let wide = r.wide in
       let kept : length r.stored ≡ 5 = ap length (sym p.wrote) ∙ long in
@@ -174,7 +165,7 @@ module _ {N C : Type 0} (words : N → List ℕ) (fits : C → N → Type 0) (le
               (at_snoc r.notes n x j e);
           free = λ z. absurd (omega arith);
           next = λ c z. absurd (omega arith);
-          each_seat = seats_stay words name places (Knows words name places now [] r.writer) s.views id w (subst (KnowsAs words name places now [] r.writer id w) (sym is) mine)
+          each_seat = seats_stay (Knows words name places now [] r.writer) s.views id w (subst (KnowsAs words name places now [] r.writer id w) (sym is) mine)
               (λ j v other e. beside_writer words name places r.notes (n ∷ []) r.stored [] r.writer j (λ h. other (h ∙ sym p.mine)) v v.kind (r.each_seat j v e));
         },
         (n, (name, named, fit), spell, refl),
@@ -182,9 +173,9 @@ module _ {N C : Type 0} (words : N → List ℕ) (fits : C → N → Type 0) (le
 
   pub looks_count : (slots id : ℕ) (m : M) → m.0.kind ≡ Looking → Allows Rule slots id m 0 (λ x. x) (LooksAtCount (step slots 0 0 0 none) m)
   looks_count slots id m is s r _ at _ =
-      let p : ReaderKnows words name places r.notes m.0 = knows s r id m.0 Looking at is in
+      let p : ReaderKnows words name places r.notes m.0 = knows seats s r id m.0 Looking at is in
       let h : ℕ = get_or s.words 0 0 in let hi : h ≡ length r.notes = r.count_is in
-      let w : View' = record m.0 { seen = h; loads = m.0.loads + 1 } in
+      let w : View' = record m.0 { seen = h; looks = m.0.looks + 1 } in
       let some_of = prefix_length m.0.notes r.notes p.some_of in let heard = prefix_length m.0.told r.notes p.heard in let saw = p.saw in let room = r.room in let sized = p.sized in
       let mine : ReaderKnows words name places r.notes w = record {
         named = p.named;
@@ -198,13 +189,13 @@ module _ {N C : Type 0} (words : N → List ℕ) (fits : C → N → Type 0) (le
         w,
         keeps,
         tt,
-        unmoved s r 0 id m.1 w (subst (SaysAs s r id w) (sym is) mine),
+        unmoved seats s r 0 id m.1 w (subst (SaysAs s r id w) (sym is) mine),
         (refl, omega arith, omega arith, omega arith, omega arith, both_begin m.0.notes m.0.told r.notes p.some_of p.heard),
       )
 
   pub looks_own : (slots id : ℕ) (m : M) → m.0.kind ≡ Publishing → Allows Rule slots id m 0 (λ x. x) (Checks (step slots 0 0 0 none) m)
-  looks_own slots id m is s r _ at _ = let p : WriterKnows name places r.notes r.stored r.writer id m.0 = knows s r id m.0 Publishing at is in
-      (m.0, keeps, tt, unmoved s r 0 id m.1 m.0 (r.each_seat id m.0 at), (refl, r.count_is ∙ ap length (sym p.all), subst (IsPrefix m.0.told) (sym p.all) p.heard))
+  looks_own slots id m is s r _ at _ = let p : WriterKnows name places r.notes r.stored r.writer id m.0 = knows seats s r id m.0 Publishing at is in
+      (m.0, keeps, tt, unmoved seats s r 0 id m.1 m.0 (r.each_seat id m.0 at), (refl, r.count_is ∙ ap length (sym p.all), subst (IsPrefix m.0.told) (sym p.all) p.heard))
 
   -- the next note of a reader that has seen that there is one
   next_is : (s : St) (r : Rule s) (v : View') → ReaderKnows words name places r.notes v → length v.notes < v.seen → (n : N) × (rest : List N) × (r.notes ≡ v.notes ++ n ∷ rest) × (get_elem? r.notes (length v.notes) ≡ some n)
@@ -222,7 +213,7 @@ module _ {N C : Type 0} (words : N → List ℕ) (fits : C → N → Type 0) (le
   pub peeks : (slots id : ℕ) (m : M) (k i : ℕ) → m.0.kind ≡ Looking → length m.0.words ≡ k → k < 5 → length m.0.notes < m.0.seen → i ≡ place (length m.0.notes) k
       → Allows Rule slots id m i (λ x. x) (Peeks (step slots i 0 0 none) m)
   peeks slots id m k i is long few ahead here s r _ at _ =
-      let p : ReaderKnows words name places r.notes m.0 = knows s r id m.0 Looking at is in
+      let p : ReaderKnows words name places r.notes m.0 = knows seats s r id m.0 Looking at is in
       let b : ℕ = get_or s.words i 0 in let w : View' = record m.0 { words = m.0.words ++ b ∷ [] } in
       let longer_now : length (m.0.words ++ b ∷ []) ≡ k + 1 = length-append m.0.words (b ∷ []) ∙ ap (λ (z : ℕ). z + 1) long in
       let mine : ReaderKnows words name places r.notes w = record {
@@ -233,12 +224,12 @@ module _ {N C : Type 0} (words : N → List ℕ) (fits : C → N → Type 0) (le
         ahead = λ _. ahead;
         read = λ n e c l. reads_on s r m.0 k i p long few here n e c (omega arith);
         heard = p.heard;
-      } in (w, keeps, tt, unmoved s r i id m.1 w (subst (SaysAs s r id w) (sym is) mine), refl)
+      } in (w, keeps, tt, unmoved seats s r i id m.1 w (subst (SaysAs s r id w) (sym is) mine), refl)
 
-  pub learns : (slots id : ℕ) (m : M) (i : ℕ) → m.0.kind ≡ Looking → length m.0.words ≡ 4 → m.0.name ≡ Some name → length m.0.notes < m.0.seen → i ≡ place (length m.0.notes) 4
+  pub learns : (slots id : ℕ) (m : M) (i : ℕ) → m.0.kind ≡ Looking → length m.0.words ≡ 4 → m.0.subject ≡ Some name → length m.0.notes < m.0.seen → i ≡ place (length m.0.notes) 4
       → Allows Rule slots id m i (λ x. x) (Learns words fits legal (step slots i 0 0 none) m)
   learns slots id m i is long named ahead here s r _ at _ =
-      let p : ReaderKnows words name places r.notes m.0 = knows s r id m.0 Looking at is in let b : ℕ = get_or s.words i 0 in
+      let p : ReaderKnows words name places r.notes m.0 = knows seats s r id m.0 Looking at is in let b : ℕ = get_or s.words i 0 in
       let t = next_is s r m.0 p ahead in let n : N = t.0 in let rest : List N = t.1 in let split : r.notes ≡ m.0.notes ++ n ∷ rest = t.2 in let good = r.good (length m.0.notes) n t.3 in
       let bits : List ℕ = m.0.words ++ b ∷ [] in let longer_now : length bits ≡ 5 = length-append m.0.words (b ∷ []) ∙ ap (λ (z : ℕ). z + 1) long in let five : length (words n) ≡ 5 = good.1 in
       let spell : words n ≡ bits = same_list (words n) bits (five ∙ sym longer_now) (λ k l. sym (reads_on s r m.0 4 i p long (omega arith) here n t.3 k (omega arith))) in
@@ -256,7 +247,7 @@ module _ {N C : Type 0} (words : N → List ℕ) (fits : C → N → Type 0) (le
         w,
         keeps,
         tt,
-        unmoved s r i id m.1 w (subst (SaysAs s r id w) (sym is) mine),
+        unmoved seats s r i id m.1 w (subst (SaysAs s r id w) (sym is) mine),
         (n, rest, (name, named, (good.0, subst (legal name) split r.lawful)), spell, both_begin now m.0.told r.notes begun p.heard, refl),
       )
 
@@ -280,39 +271,26 @@ module _ {N C : Type 0} (words : N → List ℕ) (fits : C → N → Type 0) (le
       only zero v e = subst (Knows words name places [] [] 0 0) (some-injective _ _ e) record { mine = refl; named = refl; sized = refl; all = refl; wrote = refl; heard = ([], refl) }
       only (suc j) v e = absurd (some-ne-none v (sym e))
 
-  -- a seat is split, and the new one has the view w
-  split_off : (s : St) (r : Rule s) (id : ℕ) (v w : View') → get_elem? s.views id ≡ some v → ((j : ℕ) → Says s r j w) → Rule record { words = s.words; homes = s.homes; views = set s.views id v ++ w ∷ [] }
-  split_off s r id v w at knows_w = reseated s r s.words (set s.views id v ++ w ∷ []) refl
-      (λ j u e. ⊎_elim (λ (t : get_elem? (set s.views id v) j ≡ some u). seats_stay words name places (Says s r) s.views id v (r.each_seat id v at) (λ i x _ there. r.each_seat i x there) j u t)
-      (λ (t : (j ≡ length (set s.views id v)) × (w ≡ u)). subst (Says s r j) t.1 (knows_w j)) (at_snoc (set s.views id v) w u j e))
-
   pub new_reader : (id : ℕ) (v : View') → v.kind ≡ Publishing → Splits Rule id v v (fresh v)
-  new_reader id v is s r at = let p : WriterKnows name places r.notes r.stored r.writer id v = knows s r id v Publishing at is in
-      split_off s r id v (fresh v) at (λ j. record { named = p.named; sized = p.sized; some_of = (r.notes, refl); saw = omega arith; ahead = λ z. absurd (omega arith); read = λ x e c z. absurd (omega arith); heard = (r.notes, refl) })
+  new_reader id v is s r at = let p : WriterKnows name places r.notes r.stored r.writer id v = knows seats s r id v Publishing at is in
+      split_off seats s r id v (fresh v) at (λ j. record { named = p.named; sized = p.sized; some_of = (r.notes, refl); saw = omega arith; ahead = λ z. absurd (omega arith); read = λ x e c z. absurd (omega arith); heard = (r.notes, refl) })
 
   pub copies_published : (id : ℕ) (v : View') → v.kind ≡ Publishing → Splits Rule id v v (copied v)
-  copies_published id v is s r at = let p : WriterKnows name places r.notes r.stored r.writer id v = knows s r id v Publishing at is in
-      split_off s r id v (copied v) at (λ j. ([], append-nil v.notes ∙ p.all))
+  copies_published id v is s r at = let p : WriterKnows name places r.notes r.stored r.writer id v = knows seats s r id v Publishing at is in
+      split_off seats s r id v (copied v) at (λ j. ([], append-nil v.notes ∙ p.all))
 
   pub copies_known : (id : ℕ) (v : View') → v.kind ≡ Looking → Splits Rule id v v (copied v)
-  copies_known id v is s r at = let p : ReaderKnows words name places r.notes v = knows s r id v Looking at is in
-      split_off s r id v (copied v) at (λ j. p.some_of)
-
-  join_in : (s : St) (r : Rule s) (id other : ℕ) (v : View') → Says s r id v → Rule record { words = s.words; homes = s.homes; views = set (set s.views id v) other spent }
-  join_in s r id other v mine = reseated s r s.words (set (set s.views id v) other spent) refl
-      (seats_stay words name places (Says s r) (set s.views id v) other spent tt (λ j u _ e. seats_stay words name places (Says s r) s.views id v mine (λ i x _ there. r.each_seat i x there) j u e))
-
-  other_at : (s : St) (id other : ℕ) (v w : View') → ¬ (other ≡ id) → get_elem? (set s.views id v) other ≡ some w → get_elem? s.views other ≡ some w
-  other_at s id other v w not_me e = ⊎_elim (λ (t : (other ≡ id) × (v ≡ w)). absurd (not_me t.0)) (λ (t : (other ≢ id) × (get_elem? s.views other ≡ some w)). t.1) (at_set s.views id other v w e)
+  copies_known id v is s r at = let p : ReaderKnows words name places r.notes v = knows seats s r id v Looking at is in
+      split_off seats s r id v (copied v) at (λ j. p.some_of)
 
   pub told_reader : (id : ℕ) (v : View') (other : ℕ) (w : View') → v.kind ≡ Looking → w.kind ≡ Copied → Joins Rule id v other w (told v w) spent
-  told_reader id v other w is copy s r at not_me there = let p : ReaderKnows words name places r.notes v = knows s r id v Looking at is in
-      let heard : IsPrefix w.notes r.notes = knows s r other w Copied (other_at s id other (told v w) w not_me there) copy in
+  told_reader id v other w is copy s r at not_me there = let p : ReaderKnows words name places r.notes v = knows seats s r id v Looking at is in
+      let heard : IsPrefix w.notes r.notes = knows seats s r other w Copied (other_at s.views id other (told v w) w not_me there) copy in
       let mine : ReaderKnows words name places r.notes (told v w) = record { named = p.named; sized = p.sized; some_of = p.some_of; saw = p.saw; ahead = p.ahead; read = p.read; heard = heard } in
-      join_in s r id other (told v w) (subst (SaysAs s r id (told v w)) (sym is) mine)
+      join_in seats s r id other (told v w) spent (subst (SaysAs s r id (told v w)) (sym is) mine) tt
 
   pub told_writer : (id : ℕ) (v : View') (other : ℕ) (w : View') → v.kind ≡ Publishing → w.kind ≡ Copied → Joins Rule id v other w (told v w) spent
-  told_writer id v other w is copy s r at not_me there = let p : WriterKnows name places r.notes r.stored r.writer id v = knows s r id v Publishing at is in
-      let heard : IsPrefix w.notes r.notes = knows s r other w Copied (other_at s id other (told v w) w not_me there) copy in
+  told_writer id v other w is copy s r at not_me there = let p : WriterKnows name places r.notes r.stored r.writer id v = knows seats s r id v Publishing at is in
+      let heard : IsPrefix w.notes r.notes = knows seats s r other w Copied (other_at s.views id other (told v w) w not_me there) copy in
       let mine : WriterKnows name places r.notes r.stored r.writer id (told v w) = record { mine = p.mine; named = p.named; sized = p.sized; all = p.all; wrote = p.wrote; heard = heard } in
-      join_in s r id other (told v w) (subst (SaysAs s r id (told v w)) (sym is) mine)
+      join_in seats s r id other (told v w) spent (subst (SaysAs s r id (told v w)) (sym is) mine) tt

@@ -1,8 +1,8 @@
 use Rattle.std.proofs.Common.{rules, arith, ◌≡◌, ◌<◌, ℕ, List, [], ◌∷◌, ◌++◌, length, length-set, sym, ap, ◌∙◌, subst}
 use Rattle.std.proofs.lemmas.List.{take_more_set, length-take-le, take_all}
 use Rattle.quotient_row.specs.Rule.{place}
-use Rattle.quotient_row.proofs.Keeps.{peeks}
-use Rattle.quotient_row.proofs.calls.read_four.Goals as goal
+use Rattle.quotient_row.proofs.RuleStays.{peeks}
+use Rattle.quotient_row.proofs.reader.read_four.Goals as goal
 
 pub load-requires : goal.load-requires
 load-requires g c =

@@ -1,8 +1,8 @@
 use Rattle.std.proofs.Common.{rules, arith, ◌≡◌, ◌<◌, ℕ, List, [], ◌∷◌, ◌++◌, length, get_or, sym, ap, ◌∙◌, subst}
 use Rattle.std.proofs.lemmas.List.{take_more, length-take-le, take_all}
 use Rattle.quotient_row.specs.Rule.{place}
-use Rattle.quotient_row.proofs.Keeps.{puts}
-use Rattle.quotient_row.proofs.calls.write_note.Goals as goal
+use Rattle.quotient_row.proofs.RuleStays.{puts}
+use Rattle.quotient_row.proofs.writer.write_note.Goals as goal
 
 pub store-requires : goal.store-requires
 store-requires g c =
