@@ -5,9 +5,10 @@
         flint_peer [--heap] [--workers W]
 
     Without --heap FLINT chooses its method (fmpz_mpoly_mul and its kin);
-    with it products and divisions are made by its heap methods. What FLINT
-    leaves out is left out here: faults of the reader, degree bounds, and the
-    bounds of a division. A session is taken to be right.
+    with it products and exact divisions are made by its heap methods, those
+    for threads where there are several workers. What FLINT leaves out is left
+    out here: faults of the reader, degree bounds, and the bounds of a
+    division. A session is taken to be right.
 */
 #include <stdint.h>
 #include <stdio.h>
@@ -268,6 +269,70 @@ define(polynomial * f, const char * p)
     }
 }
 
+/* ---- heap methods */
+
+/* each thread has so many terms of the shorter factor at least */
+#define TERMS_A_THREAD 16
+
+/*
+    fmpz_mpoly_mul_heap_threaded looks at the length of the destination for
+    the number of threads, and so takes one where it is new. This calls what
+    that function calls.
+*/
+static void
+heap_product_of_integers(fmpz_mpoly_t q, const fmpz_mpoly_t f, const fmpz_mpoly_t g)
+{
+    thread_pool_handle * threads;
+    slong fields = integers->minfo->nfields;
+    slong count = flint_request_threads(&threads, FLINT_MIN(f->length, g->length) / TERMS_A_THREAD);
+    if (count == 0)
+        fmpz_mpoly_mul_johnson(q, f, g, integers);
+    else
+    {
+        fmpz * most = _fmpz_vec_init(2*fields);
+        mpoly_max_fields_fmpz(most, f->exps, f->length, f->bits, integers->minfo);
+        mpoly_max_fields_fmpz(most + fields, g->exps, g->length, g->bits, integers->minfo);
+        _fmpz_mpoly_mul_heap_threaded_pool_maxfields(q, f, most, g, most + fields, integers, threads, count);
+        _fmpz_vec_clear(most, 2*fields);
+    }
+    flint_give_back_threads(threads, count);
+}
+
+static void
+heap_product_of_residues(nmod_mpoly_t q, const nmod_mpoly_t f, const nmod_mpoly_t g)
+{
+    thread_pool_handle * threads;
+    slong fields = residues->minfo->nfields;
+    slong count = flint_request_threads(&threads, FLINT_MIN(f->length, g->length) / TERMS_A_THREAD);
+    if (count == 0)
+        nmod_mpoly_mul_johnson(q, f, g, residues);
+    else
+    {
+        fmpz * most = _fmpz_vec_init(2*fields);
+        mpoly_max_fields_fmpz(most, f->exps, f->length, f->bits, residues->minfo);
+        mpoly_max_fields_fmpz(most + fields, g->exps, g->length, g->bits, residues->minfo);
+        _nmod_mpoly_mul_heap_threaded_pool_maxfields(q, f, most, g, most + fields, residues, threads, count);
+        _fmpz_vec_clear(most, 2*fields);
+    }
+    flint_give_back_threads(threads, count);
+}
+
+static int
+heap_quotient_of_integers(fmpz_mpoly_t q, const fmpz_mpoly_t f, const fmpz_mpoly_t g)
+{
+    if (flint_get_num_threads() > 1)
+        return fmpz_mpoly_divides_heap_threaded(q, f, g, integers);
+    return fmpz_mpoly_divides_monagan_pearce(q, f, g, integers);
+}
+
+static int
+heap_quotient_of_residues(nmod_mpoly_t q, const nmod_mpoly_t f, const nmod_mpoly_t g)
+{
+    if (flint_get_num_threads() > 1)
+        return nmod_mpoly_divides_heap_threaded(q, f, g, residues);
+    return nmod_mpoly_divides_monagan_pearce(q, f, g, residues);
+}
+
 /* ---- commands */
 
 static void
@@ -281,14 +346,14 @@ answer_integers(const char * command, fmpz_mpoly_t f, fmpz_mpoly_t g)
     else if (strcmp(command, "mul") == 0)
     {
         if (heap)
-            fmpz_mpoly_mul_johnson(q, f, g, integers);
+            heap_product_of_integers(q, f, g);
         else
             fmpz_mpoly_mul(q, f, g, integers);
         put_integers(q);
     }
     else if (strcmp(command, "div") == 0)
     {
-        int exact = heap ? fmpz_mpoly_divides_monagan_pearce(q, f, g, integers) : fmpz_mpoly_divides(q, f, g, integers);
+        int exact = heap ? heap_quotient_of_integers(q, f, g) : fmpz_mpoly_divides(q, f, g, integers);
         if (exact)
             put_integers(q);
         else
@@ -315,14 +380,14 @@ answer_residues(const char * command, nmod_mpoly_t f, nmod_mpoly_t g)
     else if (strcmp(command, "mul") == 0)
     {
         if (heap)
-            nmod_mpoly_mul_johnson(q, f, g, residues);
+            heap_product_of_residues(q, f, g);
         else
             nmod_mpoly_mul(q, f, g, residues);
         put_residues(q);
     }
     else if (strcmp(command, "div") == 0)
     {
-        int exact = heap ? nmod_mpoly_divides_monagan_pearce(q, f, g, residues) : nmod_mpoly_divides(q, f, g, residues);
+        int exact = heap ? heap_quotient_of_residues(q, f, g) : nmod_mpoly_divides(q, f, g, residues);
         if (exact)
             put_residues(q);
         else

@@ -17,7 +17,8 @@ import os
 import sys
 import tempfile
 
-import compare
+import program
+import turns
 import workloads
 
 
@@ -31,7 +32,7 @@ def write_session(path, terms):
 
 def main():
     parser = argparse.ArgumentParser(description=__doc__.split('\n')[0])
-    parser.add_argument('--sdmp', default=compare.PROGRAM)
+    parser.add_argument('--sdmp', default=program.SDMP)
     parser.add_argument('--terms', type=int, default=2_140_000)
     parser.add_argument('--runs', type=int, default=5)
     parser.add_argument('--folder')
@@ -41,15 +42,14 @@ def main():
         terms = words.terms if os.path.exists(session) else write_session(session, words.terms)
         size = os.path.getsize(session)
         programs = {'sdmp': [os.path.abspath(words.sdmp)]}
-        peer = compare.build_peer(scratch)
+        peer = program.flint_peer(scratch)
         if peer:
             programs['FLINT'] = [peer]
         least = {name: [math.inf, math.inf, 0] for name in programs}
         failed = False
         for turn in range(words.runs):
             for name in list(programs) if turn % 2 == 0 else list(programs)[::-1]:
-                with open(os.devnull, 'wb') as sink:
-                    wall, used, memory, status = compare.run(programs[name], session, sink)
+                wall, used, memory, status = turns.run(programs[name], session)
                 failed = failed or status != 0
                 least[name] = [min(least[name][0], wall), min(least[name][1], used), max(least[name][2], memory)]
         print('%d bytes, %d terms, which take %.0f MiB' % (size, terms, terms * 32 / 2**20))
@@ -58,7 +58,7 @@ def main():
         for name, (wall, used, memory) in least.items():
             print('| %s | %.2f | %.2f | %.0f | %.0f MiB, %.1f times the terms |' % (
                 name, wall, used, size / 1e6 / wall, memory, memory * 2**20 / (terms * 32)))
-        same = len({compare.digest(program, session) for program in programs.values()}) == 1
+        same = turns.agree(programs.values(), session)
         if failed or not same:
             print('FAULT: the outputs differ or a run failed')
             return 1

@@ -1,150 +1,275 @@
 #!/usr/bin/env python3
-"""Measures products by 1, 2 and 4 workers, beside FLINT's heap method.
+"""Measures products by several workers, beside FLINT's heap method and beside other programs.
 
-    scaling.py [--sdmp PROGRAM] [--runs N] [--places P] [--workers W,W,..]
-               [--svg FILE]
+    scaling.py [--program [NAME=]PATH].. [--runs N] [--only PART,..]
+               [--size small|medium|large] [--load N] [--limit S] [--plot]
 
-Three products: one whose answer is dense, one of two powers, and one of random
-terms. The least wall time of N runs (5) counts, less that of the same session
-without its command. Outputs are compared byte for byte.
+The capacity of the machine for W workers is what W copies of a product by one
+worker do side by side, over what one copy does alone: W times the time of one,
+over the time of all. A product by W workers reaches a share of it: the time of
+the W copies side by side, over W times the time of the one product.
 
-A worker sends each term of its part of a product as a note through its ring.
-How many notes there are is found out by multiplying the parts, each a session
-of its own: `share` is the number of notes over that of term products. With
-`--svg` the speed-ups are drawn into a file.
+    products  four products by 1, 2 and 4 workers at 64, 1024 and 65536 places,
+              the capacity of the machine from the same minutes, and FLINT by
+              1, 2 and 4 threads
+    peers     all products of workloads.py by 4 workers beside FLINT by 4 threads
+    tiny      a session of many tiny products, with the program's own words and
+              by 1, 4 and 64 workers
+    load      with --load N alone: two smaller products by 4 workers at 2, 64 and
+              1024 places, quiet and beside N busy loops
+
+Where PATH is given several times, as an older and a newer program, all take
+turns in one run. The least time of N runs (5) counts, less that of the same
+session without its commands, and all outputs of a session are compared byte for
+byte. In the last two parts a run is killed after S seconds (60). With --plot the speed-ups of this run are drawn into docs/scaling.svg.
 
 Exit status: 0, or 1 where outputs differ or a run fails.
 """
 import argparse
+import math
 import os
-import subprocess
+import signal
 import sys
 import tempfile
 
-import compare
-import workloads
-from workloads import FIVE, FOUR, Draw, power, random_terms, unit
+import drawing
+import program
+from loops import BusyLoops
+from turns import Least, measure
+from workloads import FOUR_PRODUCTS, write_folder
 
-COLOURS = ['#1b6ca8', '#c8553d', '#3a7d44']
-
-
-def products():
-    """Each product with its name, its variables and its factors in canonical order."""
-    f = power(16, [(1, unit(i, 4)) for i in range(4)], 4)
-    g = dict(f)
-    g[0, 0, 0, 0] += 1
-    yield 'dense16', FOUR, f, g
-    ups = [(1, unit(0, 5)), (1, unit(1, 5)), (2, unit(2, 5, 2)), (3, unit(3, 5, 3)), (5, unit(4, 5, 5))]
-    downs = [(1, unit(4, 5)), (1, unit(3, 5)), (2, unit(2, 5, 2)), (3, unit(1, 5, 3)), (5, unit(0, 5, 5))]
-    yield 'powers10', FIVE, power(10, ups, 5), power(10, downs, 5)
-    draw = Draw(11)
-    yield 'sparse03000', FIVE, random_terms(draw, 3000, 5, 12, 1000), random_terms(draw, 3000, 5, 12, 1000)
+WORKERS = 2, 4
+PLACES = 64, 1024, 65536
+LOADED_PLACES = 2, 64, 1024
+OWN_PLACES = 1024
+LOADED = {
+    'small': ['dense08', 'scattered00200'],
+    'medium': ['dense12', 'scattered01000'],
+    'large': ['dense20', 'scattered03000'],
+}
 
 
-def session(path, names, f, g):
-    with open(path, 'w') as file:
-        file.write('vars %s\nring Z\na = %s\nb = %s\nmul a b\n' % (
-            ' '.join(names), workloads.canonical(f, names), workloads.canonical(g, names)))
-    return path
+def sdmp(path, workers, places=None):
+    words = ['--places', str(places)] if places else []
+    return [path, '--workers', str(workers)] + words
 
 
-def notes(sdmp, folder, names, f, g, workers):
-    """The terms of all parts of the product, and an end for each worker."""
-    rows = sorted(f.items(), key=lambda t: (sum(t[0]), t[0]), reverse=True)
-    count = workers
-    for worker in range(workers):
-        part = session(os.path.join(folder, 'part.sdmp'), names, dict(rows[worker::workers]), g)
-        with open(part, 'rb') as source:
-            text = subprocess.run([sdmp], stdin=source, stdout=subprocess.PIPE, check=True).stdout
-        count += 1 + text[1:].count(b'+') + text[1:].count(b'-')
-    return count
+class Bench:
+    """The sessions, the programs by their names, FLINT's peer where it is there, and what went wrong."""
+
+    def __init__(self, folder, size, programs, runs, limit):
+        self.folder = folder
+        self.programs = programs
+        self.runs = runs
+        self.limit = limit
+        self.faults = []
+        self.peer = program.flint_peer(folder)
+        self.rows = write_folder(folder, size)
+        self.four = [self.rows[name] for name in FOUR_PRODUCTS[size]]
+        self.loaded = [self.rows[name] for name in LOADED[size]]
+
+    def session(self, row):
+        return os.path.join(self.folder, row['name'] + '.sdmp')
+
+    def turns(self, row, least):
+        """Measures all of `least`, a dictionary, in turns."""
+        print('measuring %s' % row['name'], file=sys.stderr, flush=True)
+        if not measure(list(least.values()), self.session(row), self.runs):
+            self.faults.append(row['name'])
+
+    def flint(self, workers):
+        return [self.peer, '--heap', '--workers', str(workers)]
 
 
-def measure(programs, path, runs):
-    """The least time of the answer by each program, and whether all wrote the same."""
-    with open(path, 'rb') as source:
-        text = source.read()
-    definitions = path + '.definitions'
-    with open(definitions, 'wb') as target:
-        target.write(text[:text.rstrip(b'\n').rindex(b'\n') + 1])
-    least = {key: compare.Least(program) for key, program in programs.items()}
-    for turn in range(runs):
-        for key in list(programs) if turn % 2 == 0 else list(programs)[::-1]:
-            least[key].turn(path, definitions)
-    digests = {compare.digest(program, path) for program in programs.values()}
-    right = len(digests) == 1 and not any(l.failed for l in least.values())
-    return {key: l.answer() for key, l in least.items()}, right
+def table(head, rows):
+    print('\n| ' + ' | '.join(head) + ' |')
+    print('|' + '---|' * len(head))
+    for row in rows:
+        print('| ' + ' | '.join(row) + ' |')
+    sys.stdout.flush()
 
 
-def draw_svg(path, workers, lines):
-    """The speed-ups as lines over the number of workers: sdmp whole, FLINT dashed."""
-    top = max(max(workers), 2)
+def seconds(least):
+    return 'failed' if least.failed else 'over %d' % least.limit if least.late else '%.3f' % least.answer()
 
-    def place(worker, speed):
-        return 60 + 400 * (worker - 1) / (top - 1), 320 - 280 * speed / top
 
-    parts = ['<svg xmlns="http://www.w3.org/2000/svg" width="640" height="380" font-family="sans-serif" font-size="13">',
-             '<rect width="640" height="380" fill="white"/>',
-             '<text x="60" y="24" font-size="15">Speed-up of a product over one worker</text>']
-    for speed in range(top + 1):
-        _, y = place(1, speed)
-        parts.append('<line x1="60" y1="%.0f" x2="460" y2="%.0f" stroke="#ddd"/><text x="40" y="%.0f">%d</text>' % (y, y, y + 4, speed))
-    for worker in workers:
-        x, y = place(worker, 0)
-        parts.append('<text x="%.0f" y="%.0f" text-anchor="middle">%d</text>' % (x, y + 20, worker))
-    parts.append('<text x="260" y="362" text-anchor="middle">workers (whole lines: sdmp, dashed: FLINT heap, dotted: ideal)</text>')
-    x, y = place(top, top)
-    parts.append('<polyline points="%.0f,%.0f %.0f,%.0f" fill="none" stroke="#999" stroke-dasharray="2 4"/>' % (*place(1, 1), x, y))
-    for i, (name, program, speeds) in enumerate(lines):
-        colour = COLOURS[i // 2 % len(COLOURS)]
-        points = ' '.join('%.1f,%.1f' % place(w, s) for w, s in zip(workers, speeds))
-        dash = '' if program == 'sdmp' else ' stroke-dasharray="7 4"'
-        parts.append('<polyline points="%s" fill="none" stroke="%s" stroke-width="2"%s/>' % (points, colour, dash))
-        parts.append('<line x1="480" y1="%d" x2="510" y2="%d" stroke="%s" stroke-width="2"%s/><text x="518" y="%d">%s %s</text>'
-                     % (60 + 24 * i, 60 + 24 * i, colour, dash, 64 + 24 * i, name, program))
-    with open(path, 'w') as file:
-        file.write('\n'.join(parts + ['</svg>', '']))
+def plans(bench):
+    """What is measured of one of the four products: each program alone, side by side, by workers and places; and FLINT."""
+    least = {}
+    for name, path in bench.programs.items():
+        least[name, 1] = Least(sdmp(path, 1))
+        for workers in WORKERS:
+            least[name, 'copies', workers] = Least(sdmp(path, 1), copies=workers)
+            for places in PLACES:
+                least[name, workers, places] = Least(sdmp(path, workers, places))
+    if bench.peer:
+        for workers in (1,) + WORKERS:
+            least['FLINT', workers] = Least(bench.flint(workers))
+    return least
+
+
+def capacity(least, name, workers):
+    return workers * least[name, 1].answer() / least[name, 'copies', workers].answer()
+
+
+def worker_rows(bench, row, least):
+    """The rows of one product by several workers: seconds, speed-up and share of the capacity at each number of places."""
+    for name in bench.programs:
+        alone = least[name, 1].answer()
+        for workers in WORKERS:
+            copies = least[name, 'copies', workers].answer()
+            line = [row['name'], name, str(workers)]
+            for places in PLACES:
+                one = least[name, workers, places]
+                line += [seconds(one), '%.2f' % (alone / one.answer()), '%.2f' % (copies / (workers * one.answer()))]
+            yield line
+
+
+def flint_row(row, least):
+    line = [row['name'], seconds(least['FLINT', 1])]
+    for workers in WORKERS:
+        one = least['FLINT', workers]
+        line += [seconds(one), '%.2f' % (least['FLINT', 1].answer() / one.answer())]
+    return line
+
+
+def capacity_rows(bench, row, least):
+    for name in bench.programs:
+        line = [row['name'], name, '%.3f' % (row['products'] / 1e6), seconds(least[name, 1])]
+        for workers in WORKERS:
+            line += [seconds(least[name, 'copies', workers]), '%.2f' % capacity(least, name, workers)]
+        yield line
+
+
+def measure_products(bench, plot):
+    capacities, by_workers, by_flint, panels = [], [], [], []
+    for row in bench.four:
+        least = plans(bench)
+        bench.turns(row, least)
+        capacities += capacity_rows(bench, row, least)
+        by_workers += worker_rows(bench, row, least)
+        if bench.peer:
+            by_flint.append(flint_row(row, least))
+        panels.append((row['name'], speed_ups(bench, least)))
+    heads = ['product', 'program', 'Mproducts', 'one alone s'], ['product', 'program', 'workers'], ['product', 'FLINT heap by 1 s']
+    for workers in WORKERS:
+        heads[0].extend(['%d side by side s' % workers, 'capacity'])
+        heads[2].extend(['by %d s' % workers, 'speed-up'])
+    for places in PLACES:
+        heads[1].extend(['%d places s' % places, 'speed-up', 'of capacity'])
+    for head, rows in zip(heads, (capacities, by_workers, by_flint)):
+        if rows:
+            table(head, rows)
+    if plot:
+        drawing.draw(os.path.join(program.HERE, '..', 'docs', 'scaling.svg'), (1,) + WORKERS, panels)
+
+
+def speed_ups(bench, least):
+    """The lines of one product's panel: a name, a style, and the speed-up by 1 worker and by several."""
+    for name in bench.programs:
+        alone = least[name, 1].answer()
+        yield name, 'whole', [1] + [alone / least[name, workers, OWN_PLACES].answer() for workers in WORKERS]
+    name = list(bench.programs)[-1]
+    yield 'capacity', 'dotted', [1] + [capacity(least, name, workers) for workers in WORKERS]
+    if bench.peer:
+        alone = least['FLINT', 1].answer()
+        yield 'FLINT heap', 'dashed', [1] + [alone / least['FLINT', workers].answer() for workers in WORKERS]
+
+
+def measure_peers(bench):
+    if not bench.peer:
+        return
+    rows, ratios = [], {name: [] for name in bench.programs}
+    for row in bench.rows.values():
+        if row['command'] != 'mul' or row['commands'] != 1:
+            continue
+        least = {name: Least(sdmp(path, 4)) for name, path in bench.programs.items()}
+        least['FLINT'] = Least(bench.flint(4))
+        bench.turns(row, least)
+        line = [row['name'], '%.3f' % (row['products'] / 1e6), seconds(least['FLINT'])]
+        for name in bench.programs:
+            ratios[name].append(least[name].answer() / least['FLINT'].answer())
+            line += [seconds(least[name]), '%.2f' % ratios[name][-1]]
+        rows.append(line)
+    head = ['product', 'Mproducts', 'FLINT heap by 4 s']
+    for name in bench.programs:
+        head += ['%s by 4 s' % name, 'ratio']
+    table(head, rows)
+    for name, found in ratios.items():
+        mean = math.exp(sum(map(math.log, found)) / len(found))
+        print('\n%s by 4 workers over FLINT heap by 4 threads: geometric mean %.2f of %d products, worst %.2f' % (name, mean, len(found), max(found)))
+
+
+def measure_tiny(bench):
+    row = next(row for row in bench.rows.values() if row['commands'] > 1)
+    least = {}
+    for name, path in bench.programs.items():
+        least[name, 'none'] = Least([path], limit=bench.limit)
+        for workers in 1, 4, 64:
+            least[name, '--workers %d' % workers] = Least(sdmp(path, workers), limit=bench.limit)
+    if bench.peer:
+        least['FLINT', '--heap'] = Least(bench.flint(1))
+    bench.turns(row, least)
+    rows = []
+    for (name, words), one in least.items():
+        each = '' if one.late else '%.1f' % (one.answer() / row['commands'] * 1e6)
+        rows.append((row['name'], name, words, seconds(one), each))
+    table(['session', 'program', 'words', 'answer s', 'µs a product'], rows)
+
+
+def measure_load(bench, count):
+    rows = []
+    with BusyLoops(count) as loops:
+        for row in bench.loaded:
+            least = {}
+            for name, path in bench.programs.items():
+                for places in LOADED_PLACES:
+                    for is_loaded in False, True:
+                        least[name, places, is_loaded] = Least(sdmp(path, 4, places), limit=bench.limit, beside=loops if is_loaded else None)
+            bench.turns(row, least)
+            for name in bench.programs:
+                for places in LOADED_PLACES:
+                    quiet, loaded = least[name, places, False], least[name, places, True]
+                    times = '' if quiet.late or loaded.late else '%.1f' % (loaded.answer() / quiet.answer())
+                    rows.append((row['name'], name, str(places), seconds(quiet), seconds(loaded), times))
+    table(['product by 4 workers', 'program', 'places', 'quiet s', 'beside %d busy loops s' % count, 'times'], rows)
+
+
+def named(words):
+    """The programs by their names."""
+    found = {}
+    for word in words or [program.SDMP]:
+        name, equals, path = word.rpartition('=')
+        found[name or ('sdmp' if len(words) < 2 else os.path.basename(path))] = os.path.abspath(path)
+    return found
 
 
 def main():
     parser = argparse.ArgumentParser(usage=__doc__)
-    parser.add_argument('--sdmp', default=compare.PROGRAM)
+    parser.add_argument('--program', action='append', default=[])
     parser.add_argument('--runs', type=int, default=5)
-    parser.add_argument('--places', type=int)
-    parser.add_argument('--workers', default='1,2,4')
-    parser.add_argument('--svg')
+    parser.add_argument('--only', default='products,peers,tiny,load')
+    parser.add_argument('--size', choices=list(FOUR_PRODUCTS), default='medium')
+    parser.add_argument('--load', type=int, default=0)
+    parser.add_argument('--limit', type=float, default=60)
+    parser.add_argument('--plot', action='store_true')
     words = parser.parse_args()
-    workers = [int(w) for w in words.workers.split(',')]
-    sdmp = os.path.abspath(words.sdmp)
-    places = ['--places', str(words.places)] if words.places else []
-    lines, faults = [], 0
+    parts = words.only.split(',')
+    # ended from outside, it ends the busy loops too
+    signal.signal(signal.SIGTERM, lambda *_: sys.exit(1))
     with tempfile.TemporaryDirectory() as folder:
-        peer = compare.build_peer(folder)
-        print('| product | workers | Mproducts | share of notes | sdmp answer s | speed-up | M notes/s | FLINT heap answer s | speed-up | ratio |')
-        print('|' + '---|' * 10)
-        for name, names, f, g in products():
-            path = session(os.path.join(folder, name + '.sdmp'), names, f, g)
-            programs = {('sdmp', w): [sdmp, '--workers', str(w)] + places for w in workers}
-            if peer:
-                programs.update({('FLINT', w): [peer, '--heap', '--workers', str(w)] for w in workers})
-            times, right = measure(programs, path, words.runs)
-            faults += not right
-            for program in ('sdmp', 'FLINT') if peer else ('sdmp',):
-                lines.append((name, program, [times[program, workers[0]] / times[program, w] for w in workers]))
-            for w in workers:
-                sent = notes(sdmp, folder, names, f, g, w)
-                mine = times['sdmp', w]
-                line = '| %s | %d | %.3f | %.4f | %.3f | %.2f | %.2f |' % (
-                    name, w, len(f) * len(g) / 1e6, sent / (len(f) * len(g)), mine, times['sdmp', workers[0]] / mine, sent / mine / 1e6)
-                if peer:
-                    other = times['FLINT', w]
-                    line += ' %.3f | %.2f | %.2f |' % (other, times['FLINT', workers[0]] / other, mine / other)
-                print(line, flush=True)
-            if not right:
-                print('FAULT: %s: the outputs differ or a run failed' % name)
-    if words.svg:
-        draw_svg(words.svg, workers, lines)
-    return 1 if faults else 0
+        bench = Bench(folder, words.size, named(words.program), words.runs, words.limit)
+        if 'products' in parts:
+            measure_products(bench, words.plot)
+        if 'peers' in parts:
+            measure_peers(bench)
+        if 'tiny' in parts:
+            measure_tiny(bench)
+        if 'load' in parts and words.load:
+            measure_load(bench, words.load)
+    for name in bench.faults:
+        print('\nFAULT: %s: the outputs differ or a run failed' % name)
+    return 1 if bench.faults else 0
 
 
 if __name__ == '__main__':

@@ -3,18 +3,20 @@
 
     workloads.py FOLDER [--size small|medium|large]
 
-Each FOLDER/NAME.sdmp is a session whose last line is its one command.
-FOLDER/manifest.json lists them with the number of term products that the
-schoolbook method makes. Dividends are products that are computed here, by
-plain dictionaries.
+Each FOLDER/NAME.sdmp is a session. Its last line is its one command, but that
+of `tiny` multiplies again and again. FOLDER/manifest.json lists them with the
+number of term products that the schoolbook method makes, and of commands.
+Dividends are products that are computed here, by plain dictionaries.
 """
+import argparse
 import json
 import os
-import sys
 from math import factorial
 
 MODULUS = 2**63 - 25
 MOST_BYTES = 67108864
+SIZES = 'small', 'medium', 'large'
+THREE = 'x y z'.split()
 FOUR = 'x y z t'.split()
 FIVE = 'x y z t u'.split()
 
@@ -99,14 +101,17 @@ class Folder:
         self.rows = []
         os.makedirs(path, exist_ok=True)
 
-    def add(self, name, names, modulus, definitions, command, products):
+    def write(self, name, names, modulus, body, command, commands, products):
         ring = 'mod %d' % modulus if modulus else 'Z'
-        session = 'vars %s\nring %s\n' % (' '.join(names), ring)
-        session += ''.join('%s = %s\n' % d for d in definitions) + command + '\n'
+        session = 'vars %s\nring %s\n%s' % (' '.join(names), ring, body)
         assert len(session) <= MOST_BYTES, name
         with open(os.path.join(self.path, name + '.sdmp'), 'w') as file:
             file.write(session)
-        self.rows.append({'name': name, 'products': products, 'command': command.split()[0], 'bytes': len(session)})
+        self.rows.append({'name': name, 'products': products, 'command': command, 'commands': commands, 'bytes': len(session)})
+
+    def add(self, name, names, modulus, definitions, command, products):
+        body = ''.join('%s = %s\n' % d for d in definitions) + command + '\n'
+        self.write(name, names, modulus, body, command.split()[0], 1, products)
 
     def mul(self, name, names, f, g, modulus=0, text=canonical):
         self.add(name, names, modulus, [('a', text(f, names)), ('b', text(g, names))], 'mul a b', len(f) * len(g))
@@ -117,77 +122,122 @@ class Folder:
         self.add(name, names, modulus, [('c', product), ('a', canonical(f, names))], 'div c a', len(f) * len(g))
 
 
-def main():
-    words = sys.argv[1:]
-    size = 'medium'
-    if '--size' in words:
-        at = words.index('--size')
-        size = words[at + 1]
-        del words[at:at + 2]
-    if len(words) != 1 or size not in ('small', 'medium', 'large'):
-        sys.exit(__doc__)
-    folder = Folder(words[0])
+def dense(folder, k):
+    f = power(k, [(1, unit(i, 4)) for i in range(4)], 4)
+    g = dict(f)
+    g[0, 0, 0, 0] += 1
+    folder.mul('dense%02d' % k, FOUR, f, g)
+    folder.mul('dense_p%02d' % k, FOUR, f, g, MODULUS)
+    if k <= 12:
+        folder.div('dense_div%02d' % k, FOUR, f, g)
+        folder.div('dense_div_p%02d' % k, FOUR, f, g, MODULUS)
+        folder.div('dense_none%02d' % k, FOUR, f, g, 0, '+1')
 
-    def pick(small, medium, large):
-        return {'small': small, 'medium': medium, 'large': large}[size]
 
-    for k in pick([8], [12, 16], [20]):
-        f = power(k, [(1, unit(i, 4)) for i in range(4)], 4)
-        g = dict(f)
-        g[0, 0, 0, 0] += 1
-        folder.mul('dense%02d' % k, FOUR, f, g)
-        folder.mul('dense_p%02d' % k, FOUR, f, g, MODULUS)
-        if k <= 12:
-            folder.div('dense_div%02d' % k, FOUR, f, g)
-            folder.div('dense_div_p%02d' % k, FOUR, f, g, MODULUS)
-            folder.div('dense_none%02d' % k, FOUR, f, g, 0, '+1')
+def powers(folder, k):
+    ups = [(1, unit(0, 5)), (1, unit(1, 5)), (2, unit(2, 5, 2)), (3, unit(3, 5, 3)), (5, unit(4, 5, 5))]
+    downs = [(1, unit(4, 5)), (1, unit(3, 5)), (2, unit(2, 5, 2)), (3, unit(1, 5, 3)), (5, unit(0, 5, 5))]
+    f, g = power(k, ups, 5), power(k, downs, 5)
+    folder.mul('powers%02d' % k, FIVE, f, g)
+    folder.mul('powers_p%02d' % k, FIVE, f, g, MODULUS)
 
-    for k in pick([5], [8, 10], [12]):
-        ups = [(1, unit(0, 5)), (1, unit(1, 5)), (2, unit(2, 5, 2)), (3, unit(3, 5, 3)), (5, unit(4, 5, 5))]
-        downs = [(1, unit(4, 5)), (1, unit(3, 5)), (2, unit(2, 5, 2)), (3, unit(1, 5, 3)), (5, unit(0, 5, 5))]
-        f, g = power(k, ups, 5), power(k, downs, 5)
-        folder.mul('powers%02d' % k, FIVE, f, g)
-        folder.mul('powers_p%02d' % k, FIVE, f, g, MODULUS)
 
-    for n in pick([300], [1000, 3000], [10000]):
-        draw = Draw(11)
-        for modulus in (0, MODULUS):
-            f = random_terms(draw, n, 5, 12, 0 if modulus else 1000)
-            g = random_terms(draw, n, 5, 12, 0 if modulus else 1000)
-            folder.mul('sparse%s%05d' % ('_p' if modulus else '', n), FIVE, f, g, modulus, as_given)
+def sparse(folder, n):
+    draw = Draw(11)
+    for modulus in (0, MODULUS):
+        f = random_terms(draw, n, 5, 12, 0 if modulus else 1000)
+        g = random_terms(draw, n, 5, 12, 0 if modulus else 1000)
+        folder.mul('sparse%s%05d' % ('_p' if modulus else '', n), FIVE, f, g, modulus, as_given)
 
-    for n in pick([200], [1000], [3000]):
-        draw = Draw(12)
-        folder.mul('scattered%05d' % n, FOUR, random_terms(draw, n, 4, 256, 1000), random_terms(draw, n, 4, 256, 1000), 0, as_given)
 
-    for n, m in pick([(10, 5000)], [(10, 100000)], [(30, 300000)]):
-        draw = Draw(13)
-        f, g = random_terms(draw, n, 4, 256, 1000), random_terms(draw, m, 4, 256, 1000)
-        folder.mul('few_many', FOUR, f, g, 0, as_given)
-        folder.mul('many_few', FOUR, g, f, 0, as_given)
+def scattered(folder, n):
+    draw = Draw(12)
+    f, g = random_terms(draw, n, 4, 256, 1000), random_terms(draw, n, 4, 256, 1000)
+    folder.mul('scattered%05d' % n, FOUR, f, g, 0, as_given)
 
-    for n in pick([100], [500], [1500]):
-        draw = Draw(14)
-        folder.div('sparse_div%05d' % n, FIVE, random_terms(draw, n, 5, 12, 1000), random_terms(draw, n, 5, 12, 1000))
 
-    for n in pick([2000], [20000], [200000]):
-        f = random_terms(Draw(15), n, 4, 64, 1000)
-        folder.add('rem%06d' % n, FOUR, 0, [('c', as_given(f, FOUR)), ('d', 'x^8-3*y*z+2*t-5')], 'rem c d', None)
+def lopsided(folder, lengths):
+    draw = Draw(13)
+    f, g = (random_terms(draw, n, 4, 256, 1000) for n in lengths)
+    folder.mul('few_many', FOUR, f, g, 0, as_given)
+    folder.mul('many_few', FOUR, g, f, 0, as_given)
 
-    for n, m, top in pick([(300, 20, 24)], [(2000, 60, 40)], [(5000, 200, 48)]):
-        draw = Draw(16)
-        f = random_terms(draw, n, 4, top, 0)
-        g = {k: c for k, c in random_terms(draw, m, 4, 5, 0).items() if sum(k) < 8}
-        g[8, 0, 0, 0] = 1
-        folder.add('rem_p%05d' % n, FOUR, MODULUS, [('c', as_given(f, FOUR)), ('d', as_given(g, FOUR))], 'rem c d', None)
 
-    for n in pick([10000], [100000], [1000000]):
-        f = random_terms(Draw(17), n, 4, 256, 10**6)
-        folder.add('show%07d' % n, FOUR, 0, [('a', canonical(f, FOUR))], 'show a', None)
-        folder.add('show_mixed%07d' % n, FOUR, 0, [('a', as_given(f, FOUR))], 'show a', None)
+def sparse_division(folder, n):
+    draw = Draw(14)
+    folder.div('sparse_div%05d' % n, FIVE, random_terms(draw, n, 5, 12, 1000), random_terms(draw, n, 5, 12, 1000))
 
-    with open(os.path.join(folder.path, 'manifest.json'), 'w') as file:
+
+def remainder(folder, n):
+    f = random_terms(Draw(15), n, 4, 64, 1000)
+    folder.add('rem%06d' % n, FOUR, 0, [('c', as_given(f, FOUR)), ('d', 'x^8-3*y*z+2*t-5')], 'rem c d', None)
+
+
+def remainder_of_residues(folder, sizes):
+    n, m, top = sizes
+    draw = Draw(16)
+    f = random_terms(draw, n, 4, top, 0)
+    g = {k: c for k, c in random_terms(draw, m, 4, 5, 0).items() if sum(k) < 8}
+    g[8, 0, 0, 0] = 1
+    folder.add('rem_p%05d' % n, FOUR, MODULUS, [('c', as_given(f, FOUR)), ('d', as_given(g, FOUR))], 'rem c d', None)
+
+
+def shown(folder, n):
+    f = random_terms(Draw(17), n, 4, 256, 10**6)
+    folder.add('show%07d' % n, FOUR, 0, [('a', canonical(f, FOUR))], 'show a', None)
+    folder.add('show_mixed%07d' % n, FOUR, 0, [('a', as_given(f, FOUR))], 'show a', None)
+
+
+def tiny(folder, n):
+    """So many products of 10 by 10 terms, one after another."""
+    draw = Draw(18)
+    body = ''
+    for _ in range(n):
+        f, g = random_terms(draw, 10, 3, 8, 100), random_terms(draw, 10, 3, 8, 100)
+        body += 'a = %s\nb = %s\nmul a b\n' % (as_given(f, THREE), as_given(g, THREE))
+    folder.write('tiny%05d' % n, THREE, 0, body, 'mul', n, 100 * n)
+
+
+# each family, and what it is given in the small, the medium and the large size
+FAMILIES = [
+    (dense, [8], [12, 16], [20]),
+    (powers, [5], [8, 10], [12]),
+    (sparse, [300], [1000, 3000], [10000]),
+    (scattered, [200], [1000], [3000]),
+    (lopsided, [(10, 5000)], [(10, 100000)], [(30, 300000)]),
+    (sparse_division, [100], [500], [1500]),
+    (remainder, [2000], [20000], [200000]),
+    (remainder_of_residues, [(300, 20, 24)], [(2000, 60, 40)], [(5000, 200, 48)]),
+    (shown, [10000], [100000], [1000000]),
+    (tiny, [200], [2000], [20000]),
+]
+
+
+# four products whose answers are dense and less and less so, in each size
+FOUR_PRODUCTS = {
+    'small': ['dense08', 'powers05', 'sparse00300', 'scattered00200'],
+    'medium': ['dense16', 'powers10', 'sparse03000', 'scattered01000'],
+    'large': ['dense20', 'powers12', 'sparse10000', 'scattered03000'],
+}
+
+
+def write_folder(path, size):
+    """Writes the sessions of a size and their manifest, whose rows it gives by their names."""
+    folder = Folder(path)
+    for family, *sizes in FAMILIES:
+        for given in sizes[SIZES.index(size)]:
+            family(folder, given)
+    with open(os.path.join(path, 'manifest.json'), 'w') as file:
         json.dump(folder.rows, file, indent=1)
+    return {row['name']: row for row in folder.rows}
+
+
+def main():
+    parser = argparse.ArgumentParser(usage=__doc__)
+    parser.add_argument('folder')
+    parser.add_argument('--size', choices=SIZES, default='medium')
+    words = parser.parse_args()
+    write_folder(words.folder, words.size)
 
 
 if __name__ == '__main__':

@@ -1,6 +1,6 @@
 -- Lemmas on what the lines of the body write.
 use Rattle.std.proofs.Common.{◌≡◌, ◌≢◌, ◌+◌, ◌*◌, ◌<◌, ◌≤◌, ◌&&◌, ℕ, Bool, true, false, cond, eqb, ltb, not, codes, position, Option, Some, None, length, take, drop, List, [], ◌∷◌, ◌++◌, Result, Ok, Err, IfOk, IfErr, IsErrAnd, refl, sym, ap, subst, ◌∙◌, arith}
-use Rattle.std.proofs.lemmas.Bool.{ltb-true, lt-ltb, eqb-true}
+use Rattle.std.proofs.lemmas.Bool.{ltb-true, lt-ltb, eqb-true, and_parts}
 use Rattle.sdmp_laws.specs.Order.{Order, degree}
 use Rattle.sdmp_laws.specs.Poly.{Term, norm, lm, terms, times, IsPoly}
 use Rattle.sdmp_laws.specs.Limits.{greatest_norm, IsDegreeOver, IsNormOver}
@@ -22,8 +22,8 @@ use Rattle.calc_session.specs.Lines.{is_skipped}
 use Rattle.calc_session.specs.Body.{Form, Skip, Define, Show, Mul, Div, Rem, form_of, definition, definition_at, command, one, two, only_word, is_equals}
 use Rattle.calc_session.specs.Product.{is_degree_over, is_norm_over, product, IsProduct, IsRefused}
 use Rattle.calc_session.specs.Quotient.{division, IsUndivided}
-use Rattle.calc_session.specs.Session.{Setting, Defined, define, known, ◌>>=◌, answer_of, answer_to, line_answer, reading_at, in_line, at_column, text_line, product_in, division_in, outcome_lines, division_lines, body_answers}
-use Rattle.calc_session.specs.View.{Defines, setting_in}
+use Rattle.calc_session.specs.Session.{Setting, Defined, define, known, ◌>>=◌, answer_of, answer_to, line_answer, reading_at, setting_in, in_line, at_column, text_line, product_in, division_in, outcome_lines, division_lines, body_answers}
+use Rattle.calc_session.specs.View.{Defines}
 use Rattle.calc_session.specs.declared.fault.LineFault.{LineFault}
 use Rattle.calc_session.specs.declared.fault.LineFault.TheVariants.{DegreeBound, CoefficientBound, TermBound, ZeroDivisor, NotUnit, NoMemory, BadName, ReservedName, VariableName}
 
@@ -50,18 +50,10 @@ is_over lim [] g h = absurd (h.left refl)
 is_over lim (s ∷ f) [] h = absurd (h.right refl)
 is_over lim (s ∷ f) (t ∷ g) h = let over : lim < degree s.monomial + degree t.monomial = h.over in grind (arith, over)
 
-both_left : (a b : Bool) → (a && b) ≡ true → a ≡ true
-both_left true b h = refl
-both_left false b h = h
-
-both_right : (a b : Bool) → (a && b) ≡ true → b ≡ true
-both_right true b h = h
-both_right false b h = let wrong : false ≡ true = h in absurd cc
-
 norm_over : (p : ℕ) (f g : List Term) → is_norm_over p f g ≡ true → IsNormOver p f g
 norm_over p f g h = record {
-  integers = eqb-true p 0 (both_left (eqb p 0) (ltb greatest_norm (norm f * norm g)) h);
-  over = ltb-true greatest_norm (norm f * norm g) (both_right (eqb p 0) (ltb greatest_norm (norm f * norm g)) h);
+  integers = eqb-true p 0 (and_parts (eqb p 0) (ltb greatest_norm (norm f * norm g)) h).0;
+  over = ltb-true greatest_norm (norm f * norm g) (and_parts (eqb p 0) (ltb greatest_norm (norm f * norm g)) h).1;
 }
 
 is_above : (p : ℕ) (f g : List Term) → IsNormOver p f g → is_norm_over p f g ≡ true
@@ -91,11 +83,6 @@ product_err ord lim p f g NoMemory is other = absurd (other refl)
 product_err ord lim p f g _ is other = absurd is
 
 -- ---- results
--- `?` passes an error up as it is
-pub passed_up : {T E : Type 0} (r : Result T E) (e : E) (P : E → Type 0) → IsErrAnd r (λ y. y ≡ e) → P e → IfErr r P
-passed_up (Ok x) e P is p = tt
-passed_up (Err y) e P is p = subst P (sym is) p
-
 pub if_ok_weaker : {T E : Type 0} (r : Result T E) (P Q : T → Type 0) → ((x : T) → P x → Q x) → IfOk r P → IfOk r Q
 if_ok_weaker (Ok x) P Q h p = h x p
 if_ok_weaker (Err e) P Q h p = tt

@@ -1,13 +1,12 @@
 -- What a session answers.
 use Rattle.std.specs.Prelude.{◌+◌, ℕ, List, [], ◌∷◌, ◌++◌, length, drop, codes, if◌then◌else◌, Option, Some, None, Result, Ok, Err}
 use Rattle.std.specs.Str.{bytes_eq}
-use Rattle.sdmp_laws.specs.Order.{Order, Grlex}
+use Rattle.sdmp_laws.specs.Order.{Order}
 use Rattle.sdmp_laws.specs.Poly.{Term}
 use Rattle.sdmp_laws.specs.Division.{Division}
 use Rattle.sdmp_laws.specs.declared.Mode.{Mode}
 use Rattle.sdmp_laws.specs.declared.Mode.TheVariants.{Exact, Remainder}
 use Rattle.division_laws.specs.Outcome.{Outcome, OverZero, ByNoUnit, OverBound, OverTerms, HasQuotient, HasNoQuotient, HasRemainder, outcome}
-use Rattle.packed_monomial.specs.Packing.{limit_of}
 use Rattle.text_laws.specs.Reading.{reading}
 use Rattle.text_laws.specs.Canonical.{text}
 use Rattle.text_laws.specs.declared.TextFault.{TextFault}
@@ -17,10 +16,16 @@ use Rattle.calc_session.specs.Lines.{lines, effective}
 use Rattle.calc_session.specs.Header.{vars_of, ring_of, characteristic_of}
 use Rattle.calc_session.specs.Body.{Form, Define, Show, Mul, Div, Rem, form_of}
 use Rattle.calc_session.specs.Product.{product}
+use Rattle.calc_session.specs.Quotient.{division}
 use Rattle.calc_session.specs.Faults.{fault_line}
 use Rattle.calc_session.specs.Answers.{Answers, before, done, refused}
 use Rattle.calc_session.specs.declared.fault.LineFault.{LineFault}
 use Rattle.calc_session.specs.declared.fault.LineFault.TheVariants.{VarsExpected, RingExpected, UnknownName, Syntax, UnknownNameAt, DegreeBoundAt, CoefficientBoundAt, CoefficientBound, TermBound, ZeroDivisor, NotUnit, NoMemory}
+
+-- the monomials of sessions: their order, and the greatest degree of one in so many variables
+pub record Monomials : Type 0 where
+  pub order : Order
+  pub limit : ℕ → ℕ
 
 -- the order of the monomials, the variables, the greatest degree of a monomial, and the modulus, 0 for the integers
 pub record Setting : Type 0 where
@@ -28,6 +33,13 @@ pub record Setting : Type 0 where
   pub variables : List (List ℕ)
   pub limit : ℕ
   pub modulus : ℕ
+
+abbrev pub setting_in : Order → List (List ℕ) → ℕ → ℕ → Setting
+setting_in ord names lim p = record { order = ord; variables = names; limit = lim; modulus = p }
+
+-- the setting of a session in such monomials
+abbrev pub setting_of : Monomials → List (List ℕ) → ℕ → Setting
+setting_of monomials variables modulus = setting_in monomials.order variables (monomials.limit (length variables)) modulus
 
 -- the terms of the latest polynomial of each name that has one
 abbrev pub Defined : Type 0
@@ -72,7 +84,7 @@ unfoldable pub product_in : Setting → List Term → List Term → Result (List
 product_in setting f g = product setting.order setting.limit setting.modulus f g
 
 abbrev pub division_in : Setting → Mode → List Term → List Term → Division
-division_in setting mode f g = record { mode = mode; ord = setting.order; p = setting.modulus; n = length setting.variables; f = f; g = g }
+division_in setting mode f g = division mode setting.order (length setting.variables) setting.modulus f g
 
 -- what a division writes that has this answer: the quotient, or that there is none, or the quotient and then the remainder
 abbrev pub outcome_lines : Setting → Outcome → Result (List ℕ) LineFault
@@ -130,27 +142,24 @@ body_answers setting defined number (line ∷ later) =
       | Err fault ↦ refused (fault_line number fault)
     ]
 
-abbrev pub setting_of : List (List ℕ) → ℕ → Setting
-setting_of variables modulus = record { order = Grlex; variables = variables; limit = limit_of (length variables); modulus = modulus }
-
 -- from the line with the ring on, which has this number
-unfoldable pub ring_answers : List (List ℕ) → ℕ × List (List ℕ) → Answers
-ring_answers variables (number, []) = refused (fault_line number RingExpected)
-ring_answers variables (number, line ∷ later) =
+unfoldable pub ring_answers : Monomials → List (List ℕ) → ℕ × List (List ℕ) → Answers
+ring_answers monomials variables (number, []) = refused (fault_line number RingExpected)
+ring_answers monomials variables (number, line ∷ later) =
     elim (ring_of (words_of line)) [
-      | Ok ring ↦ body_answers (setting_of variables (characteristic_of ring)) undefined (number + 1) later
+      | Ok ring ↦ body_answers (setting_of monomials variables (characteristic_of ring)) undefined (number + 1) later
       | Err fault ↦ refused (fault_line number fault)
     ]
 
 -- from the line with the variables on, which has this number
-unfoldable pub vars_answers : ℕ × List (List ℕ) → Answers
-vars_answers (number, []) = refused (fault_line number VarsExpected)
-vars_answers (number, line ∷ later) =
+unfoldable pub vars_answers : Monomials → ℕ × List (List ℕ) → Answers
+vars_answers monomials (number, []) = refused (fault_line number VarsExpected)
+vars_answers monomials (number, line ∷ later) =
     elim (vars_of (words_of line)) [
-      | Ok variables ↦ ring_answers variables (effective (number + 1) later)
+      | Ok variables ↦ ring_answers monomials variables (effective (number + 1) later)
       | Err fault ↦ refused (fault_line number fault)
     ]
 
--- what a session answers to these bytes
-unfoldable pub answers : List ℕ → Answers
-answers bytes = vars_answers (effective 1 (lines bytes))
+-- what a session in such monomials answers to these bytes
+unfoldable pub answers : Monomials → List ℕ → Answers
+answers monomials bytes = vars_answers monomials (effective 1 (lines bytes))

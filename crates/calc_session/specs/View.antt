@@ -35,9 +35,6 @@ place_in (DegreeBound at) = at
 place_in (CoefficientBound at) = at
 place_in NoMemory = 0
 
-abbrev pub setting_in : Order → List (List ℕ) → ℕ → ℕ → Setting
-setting_in ord names lim p = record { order = ord; variables = names; limit = lim; modulus = p }
-
 -- the setting of a session whose monomials have this order, this limit and so many variables
 pub record IsSettingOf (ord : Order) (lim n : ℕ) (setting : Setting) : Type 0 where
   pub order : setting.order ≡ ord

@@ -6,8 +6,7 @@ ghost use Rattle.calc_session.specs.Says.{says};
 
 use crate::effective::is_skip;
 use crate::fault::LineFault;
-use poly_text::names::{is_name, is_reserved, stands_in};
-use poly_text::{Names, split_word};
+use poly_text::{Names, is_name, is_reserved, split_word, stands_in};
 
 /// What a line says.
 #[derive(Clone, Copy, Debug)]

@@ -4,6 +4,7 @@ ghost use Rattle.calc_session.specs.Demo.{next, drawn, after, term_text, terms_t
 ghost use Rattle.std.specs.Fmt.{decimal};
 
 use crate::faults::write_number;
+use sdmp_laws::NoMemory;
 use std::alloc::{AllocError, Global};
 
 /// A generator of numbers.
@@ -30,7 +31,7 @@ impl Generator {
 }
 
 /// The session of the demo.
-pub fn demo_input(alloc: Global, seed: u64) -> Result<Vec<u8>, AllocError>
+pub fn demo_input(alloc: Global, seed: u64) -> Result<Vec<u8>, NoMemory>
     ensures { IfOk result (λ bytes. bytes.items ≡ demo_input_of seed) }
 {
     let mut out = Vec::new(alloc);

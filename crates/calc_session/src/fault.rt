@@ -5,7 +5,7 @@
 pub enum LineFault {
     /// The first line that isn't skipped doesn't begin with `vars`, or there is none.
     VarsExpected,
-    /// There are no variables, or more than 7.
+    /// There are no variables, or more than `poly_text` takes names.
     VariableCount,
     /// The word is no name.
     BadName,

@@ -5,6 +5,7 @@ ghost use Rattle.calc_session.specs.Faults.{fault_line, fault_words, fault_colum
 
 use crate::fault::LineFault;
 use itoa::Buffer;
+use sdmp_laws::NoMemory;
 use std::alloc::{AllocError, Global};
 
 /// Appends the fault line, all or nothing.
@@ -13,11 +14,12 @@ pub fn write_fault(
     line: u64,
     fault: &LineFault,
     out: &mut Vec<u8>,
-) -> Result<(), AllocError>
+) -> Result<(), NoMemory>
     ensures { out.new.items ≡ (if is_ok result then out.old.items ++ fault_line line fault.now else out.old.items) }
 {
     let text = line_of(alloc, line, fault)?;
-    out.extend_from_slice(&text)
+    out.extend_from_slice(&text)?;
+    Ok(())
 }
 
 fn line_of(alloc: Global, line: u64, fault: &LineFault) -> Result<Vec<u8>, AllocError>

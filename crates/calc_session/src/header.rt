@@ -4,7 +4,7 @@ ghost use Rattle.calc_session.specs.Lines.{lines};
 ghost use Rattle.calc_session.specs.Header.{IsChoice, characteristic_of};
 ghost use Rattle.calc_session.specs.Faults.{fault_line};
 ghost use Rattle.calc_session.specs.Answers.{refused};
-ghost use Rattle.calc_session.specs.Session.{answers, body_answers, setting_of, undefined};
+ghost use Rattle.calc_session.specs.Session.{Monomials, answers, body_answers, setting_of, undefined};
 
 use crate::effective::effective_line;
 use crate::fault::LineFault;
@@ -35,10 +35,10 @@ pub struct HeaderFault {
 pub fn parse_header(alloc: Global, bytes: &[u8]) -> Result<Header<'_>, HeaderFault>
     ensures header { IfOk
         result
-        (λ h. answers bytes.now ≡ body_answers (setting_of h.names (characteristic_of h.ring)) undefined h.line (lines h.body.now)) }
+        (λ h. (monomials : Monomials) → answers monomials bytes.now ≡ body_answers (setting_of monomials h.names (characteristic_of h.ring)) undefined h.line (lines h.body.now)) }
     ensures ring { IfOk result (λ h. IsChoice h.ring) }
     ensures within { IfOk result (λ h. h.line + length h.body.now ≤ 1 + length bytes.now) }
-    ensures refused { IfErr result (λ e. e.fault ≢ LineFault.NoMemory → answers bytes.now ≡ refused (fault_line e.line e.fault)) }
+    ensures refused { IfErr result (λ e. e.fault ≢ LineFault.NoMemory → (monomials : Monomials) → answers monomials bytes.now ≡ refused (fault_line e.line e.fault)) }
 {
     let first = effective_line(bytes, 1);
     let Some(line) = first.line else {

@@ -28,6 +28,3 @@ pub use ring_line::parse_ring;
 pub use session::BodySession;
 pub use vars::parse_vars;
 pub use writing::{write_line, write_none, write_pair};
-
-#[cfg(test)]
-mod tests;

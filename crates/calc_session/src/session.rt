@@ -1,7 +1,7 @@
 //! The body of a session.
 ghost use Rattle.std.specs.Prelude.{◌≡◌, ◌≢◌, ◌+◌, ◌≤◌, ◌<◌, [], length, map, All, Ok, Err, IfOk, IfErr, MatchResult, OnOk};
-ghost use Rattle.calc_session.specs.Session.{at_column, known, reading_at};
-ghost use Rattle.calc_session.specs.View.{held, plain, place_in, setting_in, Defines, IsSettingOf};
+ghost use Rattle.calc_session.specs.Session.{at_column, known, reading_at, setting_in};
+ghost use Rattle.calc_session.specs.View.{held, plain, place_in, Defines, IsSettingOf};
 
 use crate::definitions::Definitions;
 use crate::fault::LineFault;
@@ -25,12 +25,13 @@ pub struct BodySession<R: CoeffRing, M: Monomial> {
 
 impl<R: CoeffRing, M: Monomial> Model for BodySession<R, M> {
     ghost use Rattle.std.specs.Prelude.{◌≡◌, length, map, All};
+    ghost use Rattle.calc_session.specs.Session.{setting_in};
     ghost use Rattle.calc_session.specs.View.{Body, plain};
 
     ghost Value = { Body };
 
     ghost view = { λ s. record {
-      setting = record { order = M.order; variables = s.names; limit = M.LIM; modulus = R.characteristic s.ring };
+      setting = setting_in M.order s.names M.LIM (R.characteristic s.ring);
       defined = map plain s.defined;
     } };
 
@@ -42,7 +43,7 @@ impl<R: CoeffRing, M: Monomial> BodySession<R, M> {
     pub fn new(alloc: Global, ring: R, names: Names) -> BodySession<R, M>
         requires { length names ≡ M.VARS }
         ensures { result ≡ record {
-          setting = record { order = M.order; variables = names; limit = M.LIM; modulus = R.characteristic ring };
+          setting = setting_in M.order names M.LIM (R.characteristic ring);
           defined = [];
         } }
     {

@@ -15,10 +15,6 @@ use Rattle.std_alloc.proofs.HeapSift as sifts
 use Rattle.chained_heap.specs.declared.node.Node.{Node}
 use Rattle.chained_heap.specs.Order.{node_cmp, node_lt}
 
-pub empty_list : {X : Type 0} (xs : List X) → length xs ≡ 0 → xs ≡ []
-empty_list [] e = refl
-empty_list (x ∷ xs) e = absurd (omega arith)
-
 pub node_total : {M : Type 0} {cmp : M → M → Ordering} → IsTotalOrder cmp → IsTotalOrder (node_cmp cmp)
 node_total o = on_total (λ a. a.mono) o
 

@@ -48,12 +48,8 @@ impl<M: Monomial> ChainedHeap<M> {
             mono: M::one(),
             row: 0,
         };
-        let Ok(nodes) = vec![in alloc; node; rows as usize] else {
-            return Err(NoMemory);
-        };
-        let Ok(next) = vec![in alloc; u32::MAX; rows as usize] else {
-            return Err(NoMemory);
-        };
+        let nodes = vec![in alloc; node; rows as usize]?;
+        let next = vec![in alloc; u32::MAX; rows as usize]?;
         Ok(ChainedHeap {
             nodes,
             len: 0,

@@ -14,14 +14,13 @@ use Rattle.sdmp_laws.proofs.OrderLemmas.{degree_times}
 use Rattle.sdmp_laws.proofs.Parts.{norm_cons}
 use Rattle.sdmp_laws.proofs.TermsLemmas.{head_facts}
 use Rattle.sdmp_laws.proofs.DivisionLemmas.{abs_zero, turns_poly, scope_divides}
-use Rattle.sdmp_laws.proofs.LongLemmas.{over_times, prefix_begins}
+use Rattle.sdmp_laws.proofs.LongLemmas.{over_times, prefix_begins, unit_in_remainder}
 use Rattle.canonical_terms.specs.declared.term.TermOf.{TermOf}
 use Rattle.canonical_terms.specs.View.{sum_of}
 use Rattle.division_laws.specs.Outcome.{IsOutcome, HasQuotient, HasRemainder}
-use Rattle.divide_core.specs.Dividing.{Dividing, IsFit}
-use Rattle.division_laws.proofs.OutcomeLemmas.{not_both_modes}
+use Rattle.divide_core.specs.Dividing.{Dividing, IsTermQuotient}
 use Rattle.divide_core.proofs.Turns.{not_passed, done_within, done_exact, done_remainder}
-use Rattle.divide_core.proofs.Loop.{all_degrees}
+use Rattle.sdmp_laws.proofs.ListLemmas.{degrees_each}
 
 -- ---- what the parts keep
 norm_positive : (ord : Order) (p n : ℕ) (g : List Term) → IsPoly ord p n g → g ≢ [] → 0 < norm g
@@ -44,10 +43,10 @@ module _ (d : Division) (lim : ℕ) (q r u v : List Term) where
   quotient_norm a s z = omega (arith, not_passed d q z s.within, times_positive (norm q) (norm d.g) (norm_positive d.ord d.p d.n d.g a.divisor a.nonzero))
 
   pub quotient_canonical : IsAccepted d → Dividing d lim q r u v → All (λ t. degree t.monomial ≤ lim) q → IsCanonical d.ord d.p d.n lim q
-  quotient_canonical a s l = record { poly = turns_poly d d.f q a (prefix_begins d q a s.begun); degrees = all_degrees lim q l; norm_fits = quotient_norm a s }
+  quotient_canonical a s l = record { poly = turns_poly d d.f q a (prefix_begins d q a s.begun); degrees = degrees_each lim q l; norm_fits = quotient_norm a s }
 
   pub rest_canonical : IsAccepted d → Dividing d lim q r u v → IsCanonical d.ord d.p d.n lim r
-  rest_canonical a s = record { poly = s.rest; degrees = all_degrees lim r s.low.2; norm_fits = λ z. omega (arith, s.weight z, not_passed d q z s.within) }
+  rest_canonical a s = record { poly = s.rest; degrees = degrees_each lim r s.low.2; norm_fits = λ z. omega (arith, s.weight z, not_passed d q z s.within) }
 
 -- ---- the ends
 ends_of : (d : Division) (lim : ℕ) (q r u v : List Term) → u ≡ [] → v ≡ [] → Dividing d lim q r u v → Dividing d lim q r [] []
@@ -67,7 +66,7 @@ remainder_ends d lim q r u v a e f s n = let k = ends_of d lim q r u v e f s in 
 
 -- ---- fits
 -- by a unit each coefficient at a monomial that the leading one divides fits
-pub unit_fits : (p : ℕ) (l : List ℕ) (b : ℤ) (t : Term) → IsUnit p b → IsReduced p t.coefficient → Divides l t.monomial → (x : Term) × IsFit p l b t x
+pub unit_fits : (p : ℕ) (l : List ℕ) (b : ℤ) (t : Term) → IsUnit p b → IsReduced p t.coefficient → Divides l t.monomial → (x : Term) × IsTermQuotient p l b t x
 unit_fits p l b t i r v = (
   record { monomial = over t.monomial l; coefficient = red p (t.coefficient *ℤ i.1.0) },
   record {
@@ -82,21 +81,17 @@ unit_fits p l b t i r v = (
 )
 
 -- so where none fits in a division with remainder, the monomial is out of scope
-pub no_fit_outside : (d : Division) (t : Term) → IsAccepted d → d.mode ≡ Remainder → IsReduced d.p t.coefficient → ((x : Term) → IsFit d.p (lm d.g) (lc d.g) t x → ⊥) → InScope d.mode (lm d.g) t.monomial → ⊥
+pub no_fit_outside : (d : Division) (t : Term) → IsAccepted d → d.mode ≡ Remainder → IsReduced d.p t.coefficient → ((x : Term) → IsTermQuotient d.p (lm d.g) (lc d.g) t x → ⊥) → InScope d.mode (lm d.g) t.monomial → ⊥
 no_fit_outside d t a m r n c =
-    let f = unit_fits d.p (lm d.g) (lc d.g) t (unit_of a.unit) r (scope_divides d.mode (lm d.g) t.monomial m c) in
+    let f = unit_fits d.p (lm d.g) (lc d.g) t (unit_in_remainder d a m) r (scope_divides d.mode (lm d.g) t.monomial m c) in
     n f.0 f.1
-  where
-    unit_of : ((d.mode ≡ Exact) × (d.p ≡ 0)) ⊎ IsUnit d.p (lc d.g) → IsUnit d.p (lc d.g)
-    unit_of (inl z) = absurd (not_both_modes d.mode z.0 m)
-    unit_of (inr u) = u
 
 -- the degree of a term that fits
-pub fit_degree : (p : ℕ) (l : List ℕ) (b : ℤ) (t x : Term) → IsFit p l b t x → degree x.monomial + degree l ≡ degree t.monomial
+pub fit_degree : (p : ℕ) (l : List ℕ) (b : ℤ) (t x : Term) → IsTermQuotient p l b t x → degree x.monomial + degree l ≡ degree t.monomial
 fit_degree p l b t x f = sym (degree_times x.monomial l) ∙ ap degree (ap (λ (m : List ℕ). m ⋅ l) f.at ∙ over_times t.monomial l f.divides)
 
 -- over the integers a coefficient that fits is no greater than the one it takes away
-pub fit_size : (l : List ℕ) (b : ℤ) (t x : Term) → (b ≢ pos 0) → IsFit 0 l b t x → unsigned_abs x.coefficient ≤ unsigned_abs t.coefficient
+pub fit_size : (l : List ℕ) (b : ℤ) (t x : Term) → (b ≢ pos 0) → IsTermQuotient 0 l b t x → unsigned_abs x.coefficient ≤ unsigned_abs t.coefficient
 fit_size l b t x z f =
     let e : unsigned_abs x.coefficient * unsigned_abs b ≡ unsigned_abs t.coefficient = sym (unsigned_abs-mul x.coefficient b) ∙ ap unsigned_abs f.product in
     omega (arith, e, times_positive (unsigned_abs x.coefficient) (unsigned_abs b) (positive (unsigned_abs b) (λ k. z (abs_zero b k))))
@@ -106,9 +101,9 @@ fit_size l b t x z f =
     positive (suc k) h = omega arith
 
 -- ---- other names for the same
-pub fit_same : (p p' : ℕ) (l l' : List ℕ) (b b' : ℤ) (t x : Term) → p ≡ p' → l ≡ l' → b ≡ b' → IsFit p l b t x → IsFit p' l' b' t x
+pub fit_same : (p p' : ℕ) (l l' : List ℕ) (b b' : ℤ) (t x : Term) → p ≡ p' → l ≡ l' → b ≡ b' → IsTermQuotient p l b t x → IsTermQuotient p' l' b' t x
 fit_same p p' l l' b b' t x e f h i =
-    subst (λ (k : ℕ). IsFit k l' b' t x) e (subst (λ (k : List ℕ). IsFit p k b' t x) f (subst (λ (k : ℤ). IsFit p l k t x) h i))
+    subst (λ (k : ℕ). IsTermQuotient k l' b' t x) e (subst (λ (k : List ℕ). IsTermQuotient p k b' t x) f (subst (λ (k : ℤ). IsTermQuotient p l k t x) h i))
 
 pub dividing_same : (d : Division) (lim : ℕ) (q q' r r' u u' v v' : List Term) → q ≡ q' → r ≡ r' → u ≡ u' → v ≡ v' → Dividing d lim q r u v → Dividing d lim q' r' u' v'
 dividing_same d lim q q' r r' u u' v v' e f g h s =

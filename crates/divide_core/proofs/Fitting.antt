@@ -4,7 +4,7 @@ use Rattle.std.proofs.lemmas.Int.{unsigned_abs-mul}
 use Rattle.sdmp_laws.specs.Ring.{red, IsReduced, IsInverse, IsQuotient, IsLeastQuotient}
 use Rattle.sdmp_laws.specs.Poly.{Term}
 use Rattle.sdmp_laws.proofs.Ints.{red_mul, red_red, mul_assoc, mul_comm, mul_one}
-use Rattle.divide_core.specs.Dividing.{IsFit}
+use Rattle.divide_core.specs.Dividing.{IsTermQuotient}
 use Rattle.division_laws.proofs.OutcomeLemmas.{factor_of_one}
 
 pub inverse_size : (l v : ℤ) → IsInverse 0 l v → unsigned_abs v ≡ 1
@@ -30,5 +30,5 @@ pub by_quotient : {E : Type 0} (value : E → ℤ) (belongs : E → Type 0) (p :
 by_quotient value belongs p c l None h = λ u r e. h u (record { reduced = r; product = ap (red p) (mul_comm l u) ∙ e })
 by_quotient value belongs p c l (Some q) h = (h.0, ap (red p) (mul_comm (value q) l) ∙ h.1.quotient.product)
 
-pub no_fit : (p : ℕ) (l : List ℕ) (b : ℤ) (t x : Term) → ((u : ℤ) → IsReduced p u → red p (u *ℤ b) ≡ t.coefficient → ⊥) → IsFit p l b t x → ⊥
+pub no_fit : (p : ℕ) (l : List ℕ) (b : ℤ) (t x : Term) → ((u : ℤ) → IsReduced p u → red p (u *ℤ b) ≡ t.coefficient → ⊥) → IsTermQuotient p l b t x → ⊥
 no_fit p l b t x h f = h x.coefficient f.reduced f.product

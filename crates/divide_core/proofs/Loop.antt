@@ -17,44 +17,17 @@ use Rattle.divide_core.specs.Answer.{IsBoundPassed, IsRefusal}
 use Rattle.divide_core.specs.declared.answer.DivideFault.{DivideFault}
 use Rattle.divide_core.specs.declared.answer.DivideFault.TheVariants.{ZeroDivisor, NotUnit, CoefficientBound, TermBound, NoMemory}
 use Rattle.divide_core.proofs.Turns.{later, later_is, passes_now, long_now, passes_none}
+use Rattle.sdmp_laws.proofs.ListLemmas.{every_one, length-row}
 
 -- one worker has all rows
-every_one : (i : ℕ) (A : List Term) → every 1 0 i A ≡ A
-unfolding every
-every_one i [] = refl
-every_one i (t ∷ A) = ap (λ (b : Bool). cond b (t ∷ every 1 0 (suc i) A) (every 1 0 (suc i) A)) (eq-eqb (i % 1) 0 (omega (arith, mod-lt i one))) ∙ ap (λ (l : List Term). t ∷ l) (every_one (suc i) A)
-  where
-    one : 0 < 1
-    one = omega arith
-
 pub all_rows : (g : List Term) → every 1 0 1 (drop 1 g) ≡ later g
 all_rows g = every_one 1 (drop 1 g) ∙ sym (later_is g)
 
--- ---- degrees
-pub degrees_all : (D : ℕ) (A : List Term) → AllDegrees D A → All (λ t. degree t.monomial ≤ D) A
-unfolding AllDegrees
-degrees_all D [] h = All-nil _
-degrees_all D (t ∷ A) h = All-cons (λ (u : Term). degree u.monomial ≤ D) t A h.0 (degrees_all D A h.1)
-
-pub all_degrees : (D : ℕ) (A : List Term) → All (λ t. degree t.monomial ≤ D) A → AllDegrees D A
-unfolding AllDegrees
-all_degrees D [] h = tt
-all_degrees D (t ∷ A) h = (All-head (λ (u : Term). degree u.monomial ≤ D) t A h, all_degrees D A (All-tail (λ (u : Term). degree u.monomial ≤ D) t A h))
-
--- the quotient is canonical
-prefix_length_norm : (q L : List Term) → IsPrefix q L → norm q ≤ norm L
-prefix_length_norm q L i = omega (arith, norm_append q i.0, ap norm i.1)
-
 -- ---- the measure
-row_long : (t : Term) (A : List Term) → length (row t A) ≡ length A
-unfolding row
-row_long t [] = refl
-row_long t (s ∷ A) = ap suc (row_long t A)
-
 pub found_smaller : (old_unread new_unread owed left new_owed rows : List Term) (total known : ℕ) (t : Term) → length new_unread + length left < length old_unread + length owed → IsPermutation (left ++ row t rows) new_owed → known < total
     → length new_unread + (length new_owed + (total - (known + 1)) * length rows) < length old_unread + (length owed + (total - known) * length rows)
 found_smaller old_unread new_unread owed left new_owed rows total known t h p k =
-    let l : length new_owed ≡ length left + length rows = length_permutation (left ++ row t rows) new_owed p ∙ length-append left (row t rows) ∙ ap (λ (n : ℕ). length left + n) (row_long t rows) in
+    let l : length new_owed ≡ length left + length rows = length_permutation (left ++ row t rows) new_owed p ∙ length-append left (row t rows) ∙ ap (λ (n : ℕ). length left + n) (length-row t rows) in
     let s : (total - known) * length rows ≡ length rows + (total - (known + 1)) * length rows = ap (λ (n : ℕ). n * length rows) (let z : total - known ≡ 1 + (total - (known + 1)) = omega (arith, k) in z) ∙ one_more (total - (known + 1)) (length rows) in
     omega (arith, l, s, h)
   where

@@ -17,27 +17,19 @@ use Rattle.sdmp_laws.proofs.Ints.{red_add, red_neg, red_red, add_zero}
 use Rattle.sdmp_laws.proofs.OrderLemmas.{Three, is_less, is_equal, is_greater, below_total, order_facts}
 use Rattle.sdmp_laws.proofs.CompareLemmas.{compare_less, compare_greater, compare_same}
 use Rattle.sdmp_laws.proofs.NextTerm.{at_then_below}
-use Rattle.sdmp_laws.proofs.TermsLemmas.{total_above, total_at_head, below_cons}
+use Rattle.sdmp_laws.proofs.TermsLemmas.{total_above, total_at_head, below_cons, nothing_below}
 use Rattle.sdmp_laws.proofs.Parts.{total-le-norm, norm_cons}
 use Rattle.row_merge.specs.Learned.{QuotientState, IsGreatest, TakesOut}
 use Rattle.row_merge.proofs.Places.{all_below}
 use Rattle.canonical_terms.specs.declared.term.TermOf.{TermOf}
 use Rattle.canonical_terms.specs.View.{term_of, sum_of}
 use Rattle.divide_core.specs.Dividing.{TakesNext, IsOwed, IsCompared}
+use Rattle.sdmp_laws.proofs.ListLemmas.{each_below}
 
 at_or_below_all : (ord : Order) (m : List ℕ) (A : List Term) → AllAtOrBelow ord m A → All (λ t. AtOrAbove ord t.monomial m) A
 unfolding AllAtOrBelow
 at_or_below_all ord m [] h = All-nil _
 at_or_below_all ord m (t ∷ A) h = All-cons (λ (u : Term). AtOrAbove ord u.monomial m) t A h.0 (at_or_below_all ord m A h.1)
-
-below_each : (ord : Order) (m : List ℕ) (A : List Term) → AllBelow ord m A → All (λ t. Below ord t.monomial m) A
-unfolding AllBelow
-below_each ord m [] h = All-nil _
-below_each ord m (t ∷ A) h = All-cons (λ (u : Term). Below ord u.monomial m) t A h.0 (below_each ord m A h.1)
-
-below_nothing : (ord : Order) (m : List ℕ) → AllBelow ord m []
-unfolding AllBelow
-below_nothing ord m = tt
 
 -- there is one greatest monomial
 greatest_at : (ord : Order) (A : List Term) (x y : List ℕ) → IsGreatest ord A x → IsGreatest ord A y → AtOrAbove ord x y
@@ -54,7 +46,7 @@ one_greatest ord A x y g h = pick (greatest_at ord A x y g h) (greatest_at ord A
 -- what is taken out at the greatest monomial isn't nothing
 some_taken : (ord : Order) (A taken rest : List Term) (m : List ℕ) → IsGreatest ord A m → IsPermutation A (taken ++ rest) → AllBelow ord m rest → taken ≢ []
 some_taken ord A [] rest m g p b e =
-    (order_facts ord).irreflexive m (subst (λ (x : List ℕ). Below ord x m) g.at (All-contains (λ (t : Term). Below ord t.monomial m) rest g.some (below_each ord m rest b) (Contains-permutation A rest g.some p g.inside)))
+    (order_facts ord).irreflexive m (subst (λ (x : List ℕ). Below ord x m) g.at (All-contains (λ (t : Term). Below ord t.monomial m) rest g.some (each_below ord m rest b) (Contains-permutation A rest g.some p g.inside)))
 some_taken ord A (t ∷ taken) rest m g p b e = absurd (let k : (t ∷ taken) ≡ [] = e in cc)
 
 append_some : (A B : List Term) → B ≢ [] → A ++ B ≢ []
@@ -177,11 +169,11 @@ module _ {M E : Type 0} (vector : M → List ℕ) (value : E → ℤ) where
     where
       of_list : (us : List (TermOf M E)) → at < length us → IsCompared ord (sum_of vector value (drop at us)) owed Greater
       of_list [] l = absurd (omega arith)
-      of_list (t ∷ us) l = greater_of ord (sum_of vector value (drop at (t ∷ us))) owed (term_of vector value (get_or (t ∷ us) at t)) (sum_of vector value (drop (at + 1) (t ∷ us))) (ap (sum_of vector value) (drop_more (t ∷ us) at t l)) (subst (λ (A : List Term). AllBelow ord (vector (get_or (t ∷ us) at t).mono) A) (sym e) (below_nothing ord (vector (get_or (t ∷ us) at t).mono)))
+      of_list (t ∷ us) l = greater_of ord (sum_of vector value (drop at (t ∷ us))) owed (term_of vector value (get_or (t ∷ us) at t)) (sum_of vector value (drop (at + 1) (t ∷ us))) (ap (sum_of vector value) (drop_more (t ∷ us) at t l)) (subst (λ (A : List Term). AllBelow ord (vector (get_or (t ∷ us) at t).mono) A) (sym e) (nothing_below ord (vector (get_or (t ∷ us) at t).mono)))
 
   pub only_owed : (ord : Order) (ts : List (TermOf M E)) (at : ℕ) (owed : List Term) (m : List ℕ) → length ts ≤ at → IsGreatest ord owed m → IsCompared ord (sum_of vector value (drop at ts)) owed Less
   unfolding IsCompared
-  only_owed ord ts at owed m l g = (m, g, subst (λ (A : List Term). AllBelow ord m A) (sym (ap (sum_of vector value) (drop_all at ts l))) (below_nothing ord m))
+  only_owed ord ts at owed m l g = (m, g, subst (λ (A : List Term). AllBelow ord m A) (sym (ap (sum_of vector value) (drop_all at ts l))) (nothing_below ord m))
 
   pub both_there : (ord : Order) (n : ℕ) (ts : List (TermOf M E)) (at : ℕ) (owed : List Term) (x : TermOf M E) (m : List ℕ) (o : Ordering) → ((a : M) → length (vector a) ≡ n) → length m ≡ n → Decreasing ord (sum_of vector value (drop at ts)) → at < length ts → x ≡ get_or ts at x → IsGreatest ord owed m → o ≡ compare ord (vector x.mono) m → IsCompared ord (sum_of vector value (drop at ts)) owed o
   both_there ord n ts at owed x m o v l d h e g f =

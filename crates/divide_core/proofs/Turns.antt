@@ -18,32 +18,23 @@ use Rattle.sdmp_laws.specs.declared.Mode.TheVariants.{Exact, Remainder}
 use Rattle.sdmp_laws.proofs.Ints.{red_add, red_red, red_zero, zero_add}
 use Rattle.sdmp_laws.proofs.OrderLemmas.{Three, is_less, is_equal, is_greater, below_total, order_facts, times_cancel, alike_same, alike_self, length_times}
 use Rattle.sdmp_laws.proofs.PolyLemmas.{total_append, total_minus, from_total, times_append_left}
-use Rattle.sdmp_laws.proofs.TermsLemmas.{total_nil, total_cons, total_one, total_other, nil_poly, head_facts}
-use Rattle.sdmp_laws.proofs.Parts.{norm_append, norm_cons, norm_nil, total-le-norm}
+use Rattle.sdmp_laws.proofs.TermsLemmas.{total_above, total_nil, total_cons, total_one, total_other, nil_poly, head_facts}
+use Rattle.sdmp_laws.proofs.Parts.{norm_append, norm_cons, norm_nil, norm_row, norm_permutation, total-le-norm}
 use Rattle.sdmp_laws.proofs.Merging.{Over-push, Proper-push}
 use Rattle.sdmp_laws.proofs.NextTerm.{back_poly}
-use Rattle.sdmp_laws.proofs.PlaceLemmas.{passes_grows}
-use Rattle.sdmp_laws.proofs.DivisionLemmas.{divides_times, Turns-push, turns_agree, length_lm, in_scope, turns_poly, quotient_list_unique, left_is_rest}
+use Rattle.sdmp_laws.proofs.PlaceLemmas.{passes_grows, norm_prefix}
+use Rattle.sdmp_laws.proofs.DivisionLemmas.{below_left, divides_scope, divides_times, Turns-push, turns_agree, length_lm, in_scope, turns_poly, quotient_list_unique, left_is_rest}
 use Rattle.sdmp_laws.proofs.LongLemmas.{quotient_list_is, over_times, length_over, prefix_begins, begins_prefix, fronts_unique, exact_is_list, below_degree, all_in_scope}
-use Rattle.row_merge.proofs.Products.{product_below}
-use Rattle.row_merge.proofs.ProductSums.{perm_norm, perm_total}
+use Rattle.sdmp_laws.proofs.Permutations.{total_permutation}
+use Rattle.sdmp_laws.proofs.ListLemmas.{All-front, All-back, each_below, below_each, vectors_each}
 use Rattle.division_laws.specs.Outcome.{PassesEarly, IsLong, IsWithin}
-use Rattle.divide_core.specs.Dividing.{TakesNext, Dividing, IsFit}
+use Rattle.divide_core.specs.Dividing.{TakesNext, Dividing, IsTermQuotient}
+use Rattle.std.proofs.Math.Nat.{add-mul}
 
 -- ---- sums in which nothing stands at a monomial
 total_none : (y : List ℕ) (A : List Term) → All (λ s. s.monomial ≡ y → ⊥) A → total A y ≡ pos 0
 total_none y [] h = total_nil y
 total_none y (s ∷ A) h = total_other s A y (All-head (λ (t : Term). t.monomial ≡ y → ⊥) s A h) ∙ total_none y A (All-tail (λ (t : Term). t.monomial ≡ y → ⊥) s A h)
-
-all_below_list : (ord : Order) (m : List ℕ) (A : List Term) → AllBelow ord m A → All (λ t. Below ord t.monomial m) A
-unfolding AllBelow
-all_below_list ord m [] h = All-nil _
-all_below_list ord m (t ∷ A) h = All-cons (λ (u : Term). Below ord u.monomial m) t A h.0 (all_below_list ord m A h.1)
-
-list_below : (ord : Order) (m : List ℕ) (A : List Term) → All (λ t. Below ord t.monomial m) A → AllBelow ord m A
-unfolding AllBelow
-list_below ord m [] h = tt
-list_below ord m (t ∷ A) h = (All-head (λ (u : Term). Below ord u.monomial m) t A h, list_below ord m A (All-tail (λ (u : Term). Below ord u.monomial m) t A h))
 
 not_itself : (ord : Order) (a b : List ℕ) → Below ord a b → a ≡ b → ⊥
 not_itself ord a b h e = (order_facts ord).irreflexive b (subst (λ (x : List ℕ). Below ord x b) e h)
@@ -54,23 +45,12 @@ above_none ord m y A B h k b =
     total_none y (A ++ B)
     (All-append (λ (s : Term). s.monomial ≡ y → ⊥) A B
     (All-weaker (λ (u : Term). u.monomial ≡ m) (λ (s : Term). s.monomial ≡ y → ⊥) (λ u e z. not_itself ord m y b (sym e ∙ z)) A h)
-    (All-weaker (λ (t : Term). Below ord t.monomial m) (λ (s : Term). s.monomial ≡ y → ⊥) (λ u c z. not_itself ord u.monomial y ((order_facts ord).transitive u.monomial m y c b) z) B (all_below_list ord m B k)))
+    (All-weaker (λ (t : Term). Below ord t.monomial m) (λ (s : Term). s.monomial ≡ y → ⊥) (λ u c z. not_itself ord u.monomial y ((order_facts ord).transitive u.monomial m y c b) z) B (each_below ord m B k)))
 
 -- at m there is only what stands at m, elsewhere only the others
-at_none : (ord : Order) (m : List ℕ) (B : List Term) → AllBelow ord m B → total B m ≡ pos 0
-at_none ord m B k = total_none m B (All-weaker (λ (t : Term). Below ord t.monomial m) (λ (s : Term). s.monomial ≡ m → ⊥) (λ u c z. not_itself ord u.monomial m c z) B (all_below_list ord m B k))
-
 other_same : (m y : List ℕ) (A B : List Term) → All (λ u. u.monomial ≡ m) A → (m ≡ y → ⊥) → total (A ++ B) y ≡ total B y
 other_same m y A B h n =
     total_append A B y ∙ ap (λ (z : ℤ). z +ℤ total B y) (total_none y A (All-weaker (λ (u : Term). u.monomial ≡ m) (λ (s : Term). s.monomial ≡ y → ⊥) (λ u e z. n (sym e ∙ z)) A h)) ∙ zero_add (total B y)
-
-front_all : (P : Term → Type 0) (A B : List Term) → All P (A ++ B) → All P A
-front_all P [] B h = All-nil P
-front_all P (s ∷ A) B h = All-cons P s A (All-head P s (A ++ B) h) (front_all P A B (All-tail P s (A ++ B) h))
-
-back_all : (P : Term → Type 0) (A B : List Term) → All P (A ++ B) → All P B
-back_all P [] B h = h
-back_all P (s ∷ A) B h = back_all P A B (All-tail P s (A ++ B) h)
 
 -- ---- what is known at the greatest monomial
 module _ (d : Division) (lim : ℕ) (q r u v u' v' : List Term) (t : Term) where
@@ -79,7 +59,7 @@ module _ (d : Division) (lim : ℕ) (q r u v u' v' : List Term) (t : Term) where
   nothing_above s n y c b =
       let zr = total_none y r (All-weaker (λ (s : Term). InScope d.mode (lm d.g) s.monomial → ⊥) (λ (s : Term). s.monomial ≡ y → ⊥) (λ x o e. o (subst (λ (m : List ℕ). InScope d.mode (lm d.g) m) (sym e) c)) r s.outside) in
       let zu : total u y ≡ pos 0 = ap (λ (A : List Term). total A y) n.read_split ∙ above_none d.ord t.monomial y n.read u' n.read_at n.read_below b in
-      let zv : total v y ≡ pos 0 = sym (perm_total y v (n.handed ++ v') n.handed_split) ∙ above_none d.ord t.monomial y n.handed v' n.handed_at n.handed_below b in
+      let zv : total v y ≡ pos 0 = sym (total_permutation y v (n.handed ++ v') n.handed_split) ∙ above_none d.ord t.monomial y n.handed v' n.handed_at n.handed_below b in
       s.whole y ∙ ap (red d.p) (omega (arith, ints, zr, zu, zv)) ∙ red_zero d.p
 
   coefficient_here : Dividing d lim q r u v → TakesNext d.ord d.p u u' v v' t → InScope d.mode (lm d.g) t.monomial → coef d.p (minus d.f (times q d.g)) t.monomial ≡ t.coefficient
@@ -93,7 +73,7 @@ module _ (d : Division) (lim : ℕ) (q r u v u' v' : List Term) (t : Term) where
   greatest_all P n hu hv = pick n.read n.handed n.some n.read_at n.handed_at (read_part n.read u' (subst (λ (A : List Term). All (λ (s : Term). P s.monomial) A) n.read_split hu)) (read_part n.handed v' (All-permutation (λ (s : Term). P s.monomial) v (n.handed ++ v') n.handed_split hv))
     where
       read_part : (A B : List Term) → All (λ (s : Term). P s.monomial) (A ++ B) → All (λ (s : Term). P s.monomial) A
-      read_part A B h = front_all (λ (s : Term). P s.monomial) A B h
+      read_part A B h = All-front (λ (s : Term). P s.monomial) A B h
 
       pick : (A B : List Term) → A ++ B ≢ [] → All (λ (s : Term). s.monomial ≡ t.monomial) A → All (λ (s : Term). s.monomial ≡ t.monomial) B → All (λ (s : Term). P s.monomial) A → All (λ (s : Term). P s.monomial) B → P t.monomial
       pick [] [] z a b f g = absurd (z refl)
@@ -105,14 +85,14 @@ module _ (ord : Order) (p : ℕ) (u v u' v' : List Term) (t : Term) where
   left_other : TakesNext ord p u u' v v' t → (y : List ℕ) → (t.monomial ≡ y → ⊥) → (total u y ≡ total u' y) × (total v y ≡ total v' y)
   left_other n y z = (
     ap (λ (A : List Term). total A y) n.read_split ∙ other_same t.monomial y n.read u' n.read_at z,
-    sym (perm_total y v (n.handed ++ v') n.handed_split) ∙ other_same t.monomial y n.handed v' n.handed_at z,
+    sym (total_permutation y v (n.handed ++ v') n.handed_split) ∙ other_same t.monomial y n.handed v' n.handed_at z,
   )
 
   left_here : TakesNext ord p u u' v v' t → (total u' t.monomial ≡ pos 0) × (total v' t.monomial ≡ pos 0)
-  left_here n = (at_none ord t.monomial u' n.read_below, at_none ord t.monomial v' n.handed_below)
+  left_here n = (total_above ord t.monomial u' n.read_below, total_above ord t.monomial v' n.handed_below)
 
   left_norms : (n : TakesNext ord p u u' v v' t) → (norm n.read + norm u' ≡ norm u) × (norm n.handed + norm v' ≡ norm v)
-  left_norms n = (sym (norm_append n.read u') ∙ ap norm (sym n.read_split), sym (norm_append n.handed v') ∙ perm_norm v (n.handed ++ v') n.handed_split)
+  left_norms n = (sym (norm_append n.read u') ∙ ap norm (sym n.read_split), sym (norm_append n.handed v') ∙ norm_permutation v (n.handed ++ v') n.handed_split)
 
   pub fewer : TakesNext ord p u u' v v' t → length u' + length v' < length u + length v
   fewer n =
@@ -125,31 +105,26 @@ module _ (ord : Order) (p : ℕ) (u v u' v' : List Term) (t : Term) where
 
   -- what holds of all that was to come holds of what is left
   kept_unread : (P : Term → Type 0) → TakesNext ord p u u' v v' t → All P u → All P u'
-  kept_unread P n h = back_all P n.read u' (subst (λ (A : List Term). All P A) n.read_split h)
+  kept_unread P n h = All-back P n.read u' (subst (λ (A : List Term). All P A) n.read_split h)
 
   kept_owed : (P : Term → Type 0) → TakesNext ord p u u' v v' t → All P v → All P v'
-  kept_owed P n h = back_all P n.handed v' (All-permutation P v (n.handed ++ v') n.handed_split h)
+  kept_owed P n h = All-back P n.handed v' (All-permutation P v (n.handed ++ v') n.handed_split h)
 
   -- over the integers the difference of the sums is no greater than what was taken
   size : TakesNext ord 0 u u' v v' t → unsigned_abs t.coefficient + (norm u' + norm v') ≤ norm u + norm v
   size n =
       let e : t.coefficient ≡ total u t.monomial +ℤ neg_ℤ (total v t.monomial) = n.sum in
       let a : total u t.monomial ≡ total n.read t.monomial +ℤ total u' t.monomial = ap (λ (A : List Term). total A t.monomial) n.read_split ∙ total_append n.read u' t.monomial in
-      let b : total v t.monomial ≡ total n.handed t.monomial +ℤ total v' t.monomial = sym (perm_total t.monomial v (n.handed ++ v') n.handed_split) ∙ total_append n.handed v' t.monomial in
-      let zu = at_none ord t.monomial u' n.read_below in
-      let zv = at_none ord t.monomial v' n.handed_below in
+      let b : total v t.monomial ≡ total n.handed t.monomial +ℤ total v' t.monomial = sym (total_permutation t.monomial v (n.handed ++ v') n.handed_split) ∙ total_append n.handed v' t.monomial in
+      let zu = total_above ord t.monomial u' n.read_below in
+      let zv = total_above ord t.monomial v' n.handed_below in
       let f : unsigned_abs t.coefficient ≤ unsigned_abs (total n.read t.monomial) + unsigned_abs (total n.handed t.monomial) = omega (arith, ints, e, a, b, zu, zv) in
       let nu : norm n.read + norm u' ≡ norm u = sym (norm_append n.read u') ∙ ap norm (sym n.read_split) in
-      let nv : norm n.handed + norm v' ≡ norm v = sym (norm_append n.handed v') ∙ perm_norm v (n.handed ++ v') n.handed_split in
+      let nv : norm n.handed + norm v' ≡ norm v = sym (norm_append n.handed v') ∙ norm_permutation v (n.handed ++ v') n.handed_split in
       omega (arith, f, total-le-norm n.read t.monomial, total-le-norm n.handed t.monomial, nu, nv)
 
 suffix_poly : (ord : Order) (p n : ℕ) (u A B : List Term) → u ≡ A ++ B → IsPoly ord p n u → IsPoly ord p n B
 suffix_poly ord p n u A B e i = back_poly ord p n A B (subst (λ (L : List Term). IsPoly ord p n L) e i)
-
-pub vectors_of : (n : ℕ) (A : List Term) → Over n A → All (λ t. length t.monomial ≡ n) A
-unfolding Over
-vectors_of n [] o = All-nil _
-vectors_of n (t ∷ A) o = All-cons (λ (u : Term). length u.monomial ≡ n) t A o.0 (vectors_of n A o.1)
 
 regroup : (a b c : ℤ) → (a +ℤ b) +ℤ c ≡ a +ℤ (b +ℤ c)
 regroup a b c = omega (arith, ints)
@@ -162,7 +137,7 @@ not_passed d q z h = pick (ltb greatest_norm (norm d.f + norm q * norm d.g)) ref
     pick false e = ltb-false greatest_norm (norm d.f + norm q * norm d.g) e
 
 below_push : (ord : Order) (m : List ℕ) (A : List Term) (t : Term) → AllBelow ord m A → Below ord t.monomial m → AllBelow ord m (A ++ t ∷ [])
-below_push ord m A t h b = list_below ord m (A ++ t ∷ []) (All-push (λ (x : Term). Below ord x.monomial m) A t (all_below_list ord m A h) b)
+below_push ord m A t h b = below_each ord m (A ++ t ∷ []) (All-push (λ (x : Term). Below ord x.monomial m) A t (each_below ord m A h) b)
 
 falls_push : (ord : Order) (A : List Term) (t : Term) → Decreasing ord A → All (λ s. Below ord t.monomial s.monomial) A → Decreasing ord (A ++ t ∷ [])
 unfolding Decreasing AllBelow
@@ -186,7 +161,7 @@ module _ (d : Division) (lim : ℕ) (q r u v u' v' : List Term) (t : Term) where
       (λ y h. greatest_all d lim q r u v u' v' t (λ (m : List ℕ). Below d.ord m y.monomial) n h.0 h.1) r s.under
 
   pub vector_here : Dividing d lim q r u v → TakesNext d.ord d.p u u' v v' t → length t.monomial ≡ d.n
-  vector_here s n = greatest_all d lim q r u v u' v' t (λ (m : List ℕ). length m ≡ d.n) n (vectors_of d.n u s.unread_is.vectors) s.vectors
+  vector_here s n = greatest_all d lim q r u v u' v' t (λ (m : List ℕ). length m ≡ d.n) n (vectors_each d.n u s.unread_is.vectors) s.vectors
 
   pub degree_here : Dividing d lim q r u v → TakesNext d.ord d.p u u' v v' t → degree t.monomial ≤ lim
   degree_here s n = greatest_all d lim q r u v u' v' t (λ (m : List ℕ). degree m ≤ lim) n s.low.0 s.low.1
@@ -237,7 +212,7 @@ module _ (d : Division) (lim : ℕ) (q r u v u' v' : List Term) (t : Term) where
     whole = λ y. s.whole y ∙ same y (alike t.monomial y) refl;
     rest = poly_push d.ord d.p d.n r t s.rest (vector_here s n) (reduced_here n) z (below_rest s n);
     outside = All-push (λ (x : Term). InScope d.mode (lm d.g) x.monomial → ⊥) r t s.outside o;
-    under = All-push (λ (y : Term). All (λ x. Below d.ord x.monomial y.monomial) u' × All (λ x. Below d.ord x.monomial y.monomial) v') r t (under_left s n) (all_below_list d.ord t.monomial u' n.read_below, all_below_list d.ord t.monomial v' n.handed_below);
+    under = All-push (λ (y : Term). All (λ x. Below d.ord x.monomial y.monomial) u' × All (λ x. Below d.ord x.monomial y.monomial) v') r t (under_left s n) (each_below d.ord t.monomial u' n.read_below, each_below d.ord t.monomial v' n.handed_below);
     unread_is = suffix_poly d.ord d.p d.n u n.read u' n.read_split s.unread_is;
     vectors = kept_owed d.ord d.p u v u' v' t (λ (x : Term). length x.monomial ≡ d.n) n s.vectors;
     low = (kept_unread d.ord d.p u v u' v' t (λ (x : Term). degree x.monomial ≤ lim) n s.low.0, kept_owed d.ord d.p u v u' v' t (λ (x : Term). degree x.monomial ≤ lim) n s.low.1, All-push (λ (x : Term). degree x.monomial ≤ lim) r t s.low.2 (degree_here s n));
@@ -265,7 +240,7 @@ module _ (d : Division) (lim : ℕ) (q r u v u' v' : List Term) (t : Term) where
 -- ---- a quotient term is found
 -- t1 takes away the coefficient at the greatest monomial
 abbrev pub Fits : Division → Term → Term → Type 0
-Fits d t t1 = IsFit d.p (lm d.g) (lc d.g) t t1
+Fits d t t1 = IsTermQuotient d.p (lm d.g) (lc d.g) t t1
 
 -- the terms of the divisor after the first
 pub later : List Term → List Term
@@ -277,33 +252,14 @@ unfolding later
 later_is [] = refl
 later_is (t ∷ g) = refl
 
-scope_of : (mode : Mode) (l m : List ℕ) → Divides l m → InScope mode l m
-unfolding InScope
-scope_of Exact l m h = tt
-scope_of Remainder l m h = h
-
 first_and_later : (t1 : Term) (g : List Term) (y : List ℕ) → g ≢ [] → total (row t1 g) y ≡ total (record { monomial = t1.monomial ⋅ lm g; coefficient = t1.coefficient *ℤ lc g } ∷ []) y +ℤ total (row t1 (later g)) y
 unfolding row term_times lm lc later
 first_and_later t1 [] y n = absurd (n refl)
 first_and_later t1 (s ∷ g) y n = total_cons (term_times t1 s) (row t1 g) y
 
-spread_left : (a b c : ℕ) → a * (b + c) ≡ a * b + a * c
-spread_left a b c = omega arith
-
-times_zero : (a b : ℕ) → b ≡ 0 → a * b ≡ 0
-times_zero a zero e = omega arith
-times_zero a (suc b) e = absurd (omega (arith, e))
-
 zero_times : (a b : ℕ) → a ≡ 0 → a * b ≡ 0
 zero_times zero b e = omega arith
 zero_times (suc a) b e = absurd (omega (arith, e))
-
-row_norm : (t1 : Term) (B : List Term) → norm (row t1 B) ≡ unsigned_abs t1.coefficient * norm B
-unfolding row term_times
-row_norm t1 [] = norm_nil ∙ sym (times_zero (unsigned_abs t1.coefficient) (norm []) norm_nil)
-row_norm t1 (s ∷ B) =
-    norm_cons (term_times t1 s) (row t1 B) ∙ (λ i. unsigned_abs-mul t1.coefficient s.coefficient i + row_norm t1 B i)
-    ∙ sym (ap (λ (k : ℕ). unsigned_abs t1.coefficient * k) (norm_cons s B) ∙ spread_left (unsigned_abs t1.coefficient) (unsigned_abs s.coefficient) (norm B))
 
 row_each : (P : List ℕ → Type 0) (t1 : Term) (B : List Term) → All (λ s. P (t1.monomial ⋅ s.monomial)) B → All (λ s. P s.monomial) (row t1 B)
 unfolding row term_times
@@ -318,12 +274,12 @@ times_push q t1 g y = ap (λ (A : List Term). total A y) (times_append_left q (t
 later_below : (ord : Order) (p n : ℕ) (g : List Term) → IsPoly ord p n g → All (λ s. Below ord s.monomial (lm g)) (later g)
 unfolding lm later
 later_below ord p n [] i = All-nil _
-later_below ord p n (t ∷ g) i = all_below_list ord t.monomial g (head_facts ord p n t g i).1
+later_below ord p n (t ∷ g) i = each_below ord t.monomial g (head_facts ord p n t g i).1
 
 later_vectors : (n : ℕ) (g : List Term) → Over n g → All (λ s. length s.monomial ≡ n) (later g)
 unfolding later
 later_vectors n [] o = All-nil _
-later_vectors n (t ∷ g) o = All-tail (λ (u : Term). length u.monomial ≡ n) t g (vectors_of n (t ∷ g) o)
+later_vectors n (t ∷ g) o = All-tail (λ (u : Term). length u.monomial ≡ n) t g (vectors_each n (t ∷ g) o)
 
 later_norm : (g : List Term) → norm (later g) ≤ norm g
 unfolding later
@@ -346,11 +302,8 @@ module _ (d : Division) (lim : ℕ) (t t1 : Term) where
   products a f l =
       row_each (λ (m : List ℕ). Below d.ord m t.monomial × (length m ≡ d.n)) t1 (later d.g)
       (All-both (λ (s : Term). Below d.ord s.monomial (lm d.g)) (λ (s : Term). length s.monomial ≡ d.n) (λ (s : Term). Below d.ord (t1.monomial ⋅ s.monomial) t.monomial × (length (t1.monomial ⋅ s.monomial) ≡ d.n))
-      (λ s b k. (subst (λ (m : List ℕ). Below d.ord (t1.monomial ⋅ s.monomial) m) (found_at f) (product_below d.ord s.monomial (lm d.g) t1.monomial (k ∙ sym (length_lm d a)) b), length_times t1.monomial s.monomial (found_vector f l ∙ sym k) ∙ found_vector f l))
+      (λ s b k. (subst (λ (m : List ℕ). Below d.ord (t1.monomial ⋅ s.monomial) m) (found_at f) (below_left d.ord s.monomial (lm d.g) t1.monomial (k ∙ sym (length_lm d a)) b), length_times t1.monomial s.monomial (found_vector f l ∙ sym k) ∙ found_vector f l))
       (later d.g) (later_below d.ord d.p d.n d.g a.divisor) (later_vectors d.n d.g a.divisor.vectors))
-
-spread : (a b c : ℕ) → (a + b) * c ≡ a * c + b * c
-spread a b c = omega arith
 
 shuffle : (x u v p l : ℤ) → ((x +ℤ u) +ℤ neg_ℤ v) +ℤ (neg_ℤ p +ℤ neg_ℤ l) ≡ ((u +ℤ neg_ℤ v) +ℤ neg_ℤ p) +ℤ (x +ℤ neg_ℤ l)
 shuffle x u v p l = omega (arith, ints)
@@ -359,7 +312,7 @@ module _ (d : Division) (lim : ℕ) (q r u v u' v' : List Term) (t t1 : Term) wh
   turn_of : IsAccepted d → Dividing d lim q r u v → TakesNext d.ord d.p u u' v v' t → t.coefficient ≢ pos 0 → Fits d t t1 → Turn d (minus d.f (times q d.g)) t1
   turn_of a s n z f =
       let e : (t1.monomial ⋅ lm d.g) ≡ t.monomial = found_at d lim t t1 f in
-      let h : coef d.p (minus d.f (times q d.g)) (t1.monomial ⋅ lm d.g) ≡ t.coefficient = ap (λ (m : List ℕ). coef d.p (minus d.f (times q d.g)) m) e ∙ coefficient_here d lim q r u v u' v' t s n (scope_of d.mode (lm d.g) t.monomial f.divides) in
+      let h : coef d.p (minus d.f (times q d.g)) (t1.monomial ⋅ lm d.g) ≡ t.coefficient = ap (λ (m : List ℕ). coef d.p (minus d.f (times q d.g)) m) e ∙ coefficient_here d lim q r u v u' v' t s n (divides_scope d.mode (lm d.g) t.monomial f.divides) in
       record {
         vector = found_vector d lim t t1 f (vector_here d lim q r u v u' v' t s n);
         reduced = f.reduced;
@@ -399,10 +352,10 @@ module _ (d : Division) (lim : ℕ) (q r u v u' v' : List Term) (t t1 : Term) wh
 
       heavy : norm r + (unsigned_abs t.coefficient + (norm u' + norm v')) ≤ norm d.f + norm q * norm d.g → norm r + (norm u' + norm w) ≤ norm d.f + norm (q ++ t1 ∷ []) * norm d.g
       heavy k =
-          let nw : norm w ≡ norm v' + unsigned_abs t1.coefficient * norm (later d.g) = perm_norm (v' ++ row t1 (later d.g)) w pw ∙ norm_append v' (row t1 (later d.g)) ∙ ap (λ (x : ℕ). norm v' + x) (row_norm t1 (later d.g)) in
+          let nw : norm w ≡ norm v' + unsigned_abs t1.coefficient * norm (later d.g) = norm_permutation (v' ++ row t1 (later d.g)) w pw ∙ norm_append v' (row t1 (later d.g)) ∙ ap (λ (x : ℕ). norm v' + x) (norm_row t1 (later d.g)) in
           let nq : norm (q ++ t1 ∷ []) ≡ norm q + unsigned_abs t1.coefficient = omega (arith, norm_append q (t1 ∷ []), norm_cons t1 [], norm_nil) in
           let m : unsigned_abs t1.coefficient * norm (later d.g) ≤ unsigned_abs t1.coefficient * norm d.g = mul-le-mul_left (unsigned_abs t1.coefficient) (later_norm d.g) in
-          let p : norm (q ++ t1 ∷ []) * norm d.g ≡ norm q * norm d.g + unsigned_abs t1.coefficient * norm d.g = ap (λ (x : ℕ). x * norm d.g) nq ∙ spread (norm q) (unsigned_abs t1.coefficient) (norm d.g) in
+          let p : norm (q ++ t1 ∷ []) * norm d.g ≡ norm q * norm d.g + unsigned_abs t1.coefficient * norm d.g = ap (λ (x : ℕ). x * norm d.g) nq ∙ add-mul (norm q) (unsigned_abs t1.coefficient) (norm d.g) in
           omega (arith, k, nw, m, p)
 
       lead : Term
@@ -426,7 +379,7 @@ module _ (d : Division) (lim : ℕ) (q r u v u' v' : List Term) (t t1 : Term) wh
       whole y =
           let one : total (minus d.f (times (q ++ t1 ∷ []) d.g)) y ≡ total (minus d.f (times q d.g)) y +ℤ (neg_ℤ (total (lead ∷ []) y) +ℤ neg_ℤ (total (row t1 (later d.g)) y)) =
           omega (arith, ints, total_minus d.f (times (q ++ t1 ∷ []) d.g) y, total_minus d.f (times q d.g) y, times_push q t1 d.g y, first_and_later t1 d.g y a.nonzero) in
-          let ww : total w y ≡ total v' y +ℤ total (row t1 (later d.g)) y = perm_total y (v' ++ row t1 (later d.g)) w pw ∙ total_append v' (row t1 (later d.g)) y in
+          let ww : total w y ≡ total v' y +ℤ total (row t1 (later d.g)) y = total_permutation y (v' ++ row t1 (later d.g)) w pw ∙ total_append v' (row t1 (later d.g)) y in
           ap (red d.p) one
           ∙ red_add d.p (total (minus d.f (times q d.g)) y) ((total r y +ℤ total u y) +ℤ neg_ℤ (total v y)) (neg_ℤ (total (lead ∷ []) y) +ℤ neg_ℤ (total (row t1 (later d.g)) y)) (neg_ℤ (total (lead ∷ []) y) +ℤ neg_ℤ (total (row t1 (later d.g)) y)) (s.whole y) refl
           ∙ ap (red d.p) (shuffle (total r y) (total u y) (total v y) (total (lead ∷ []) y) (total (row t1 (later d.g)) y))
@@ -590,8 +543,7 @@ module _ (d : Division) (q : List Term) (t1 : Term) where
         where
           grown : (x : List Term) → IsPrefix x (q ++ t1 ∷ []) → Passes d x → Passes d (q ++ t1 ∷ [])
           grown x j k =
-              let n : norm x ≤ norm (q ++ t1 ∷ []) = omega (arith, norm_append x j.0, ap norm j.1) in
-              record { integers = k.integers; over = omega (arith, k.over, mul-le-mul_right (norm d.g) n) }
+              record { integers = k.integers; over = omega (arith, k.over, mul-le-mul_right (norm d.g) (norm_prefix x (q ++ t1 ∷ []) j)) }
 
   -- and where it passes none, it passes neither bound
   pub passes_none : (Passes d (q ++ t1 ∷ []) → ⊥) → (PassesBound d q → ⊥) → (length (q ++ t1 ∷ []) ≢ quotient_terms_limit) → PassesBound d (q ++ t1 ∷ []) → ⊥

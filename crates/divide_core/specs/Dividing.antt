@@ -9,11 +9,11 @@ use Rattle.sdmp_laws.specs.Division.{Division, InScope}
 use Rattle.sdmp_laws.specs.LongDivision.{quotient_list}
 use Rattle.sdmp_laws.specs.Limits.{PassesBound}
 use Rattle.sdmp_laws.specs.Canonical.{IsCanonical, Polynomial}
-use Rattle.sdmp_laws.specs.declared.Mode.{Mode}
 use Rattle.std.specs.declared.cmp.Ordering.{Ordering}
 use Rattle.std.specs.declared.cmp.Ordering.TheVariants.{Less, Equal, Greater}
 use Rattle.canonical_terms.specs.declared.term.TermOf.{TermOf}
 use Rattle.canonical_terms.specs.View.{sum_of}
+use Rattle.divide_core.specs.declared.fit.Leading.{Leading}
 use Rattle.row_merge.specs.Learned.{QuotientState, IsGreatest, HandOut}
 
 -- of the unread terms of the dividend and of the products owed, those at the greatest monomial are taken out, and t is the difference of their sums
@@ -42,8 +42,8 @@ IsCompared ord unread owed Greater = (t : Term) × (rest : List Term) × (unread
 IsCompared ord unread owed Less = (m : List ℕ) × IsGreatest ord owed m × AllBelow ord m unread
 IsCompared ord unread owed Equal = (t : Term) × (rest : List Term) × (unread ≡ t ∷ rest) × IsGreatest ord owed t.monomial
 
--- t1 times a term with the monomial l and the coefficient b has the monomial and the coefficient of t
-pub record IsFit (p : ℕ) (l : List ℕ) (b : ℤ) (t t1 : Term) : Type 0 where
+-- t1 is the quotient of the term t by the term with the monomial l and the coefficient b
+pub record IsTermQuotient (p : ℕ) (l : List ℕ) (b : ℤ) (t t1 : Term) : Type 0 where
   pub divides : Divides l t.monomial
   pub at : t1.monomial ≡ over t.monomial l
   pub reduced : IsReduced p t1.coefficient
@@ -65,24 +65,16 @@ pub record Dividing (d : Division) (lim : ℕ) (q r unread owed : List Term) : T
   pub low : All (λ t. degree t.monomial ≤ lim) unread × All (λ t. degree t.monomial ≤ lim) owed × All (λ t. degree t.monomial ≤ lim) r
   pub weight : d.p ≡ 0 → norm r + (norm unread + norm owed) ≤ norm d.f + norm q * norm d.g
 
--- the division of two polynomials in n variables
-abbrev pub division_of : Mode → Order → ℕ → Polynomial → Polynomial → Division
-division_of mode ord n f g = record { mode = mode; ord = ord; p = f.modulus; n = n; f = f.list; g = g.list }
-
 -- the terms are those of f, in order
 pub record AreTerms {M E : Type 0} (vector : M → List ℕ) (value : E → ℤ) (Belongs : E → Type 0) (ord : Order) (n lim : ℕ) (f : Polynomial) (ts : List (TermOf M E)) : Type 0 where
   pub view : sum_of vector value ts ≡ f.list
   pub canonical : IsCanonical ord f.modulus n lim f.list
   pub belongs : All (λ t. Belongs t.coef) ts
 
--- the term is the leading one of g, within the limit on degrees, and the inverse is that of its coefficient, where that is a unit
-pub record IsLeading {M E : Type 0} (vector : M → List ℕ) (value : E → ℤ) (Belongs : E → Type 0) (lim : ℕ) (g : Polynomial) (lead : TermOf M E) (inverse : Option E) : Type 0 where
-  pub monomial : vector lead.mono ≡ lm g.list
-  pub coefficient : value lead.coef ≡ lc g.list
-  pub low : degree (vector lead.mono) ≤ lim
-  pub belongs : Belongs lead.coef
-  pub unit : MatchOption inverse (IsUnit g.modulus (value lead.coef) → ⊥) (λ v. Belongs v × IsInverse g.modulus (value lead.coef) (value v))
-
--- all rows of a divisor, none of which has learned a quotient term
-abbrev pub unlearned : Polynomial → QuotientState
-unlearned g = record { modulus = g.modulus; divisor = g.list; rows = every 1 0 1 (drop 1 g.list); learned = []; unread = []; spare = 0 }
+-- the leading term of g, within the limit on degrees, and the inverse of its coefficient, where that is a unit
+pub record IsLeading {M E : Type 0} (vector : M → List ℕ) (value : E → ℤ) (Belongs : E → Type 0) (lim : ℕ) (g : Polynomial) (lead : Leading M E) : Type 0 where
+  pub monomial : vector lead.term.mono ≡ lm g.list
+  pub coefficient : value lead.term.coef ≡ lc g.list
+  pub low : degree (vector lead.term.mono) ≤ lim
+  pub belongs : Belongs lead.term.coef
+  pub unit : MatchOption lead.inverse (IsUnit g.modulus (value lead.term.coef) → ⊥) (λ v. Belongs v × IsInverse g.modulus (value lead.term.coef) (value v))

@@ -1,12 +1,13 @@
 //! Division on the calling thread.
 ghost use Rattle.std.specs.Prelude.{◌≡◌, ◌≢◌, MatchResult, IsTrue, ◌↔◌, ◌⊎◌, None};
 ghost use Rattle.sdmp_laws.specs.Division.{IsAccepted};
-ghost use Rattle.divide_core.specs.Dividing.{AreTerms, IsLeading, division_of, unlearned};
+ghost use Rattle.divide_core.specs.Dividing.{AreTerms, IsLeading};
+ghost use Rattle.division_laws.specs.Outcome.{division_of};
 ghost use Rattle.divide_core.specs.Answer.{IsAnswer, IsRefusal};
 
 use crate::answer::{DivideFault, Division};
 use crate::bound::{Norms, with_term};
-use crate::fit::find;
+use crate::fit::{Leading, find};
 use crate::next::take_next;
 use canonical_terms::{Poly, Term};
 use coeff_ring::CoeffRing;
@@ -36,15 +37,12 @@ pub fn divide_alone<R: CoeffRing, M: Monomial>(
     if divisor.is_empty() {
         return Err(DivideFault::ZeroDivisor);
     }
-    let lead = divisor[0];
-    let inverse = ring.inverse(lead.coef);
+    let term = divisor[0];
+    let inverse = ring.inverse(term.coef);
     if is_refused(ring, mode, inverse) {
         return Err(DivideFault::NotUnit);
     }
-    let Ok(mut rows) = QuotientRows::new(alloc, g, 1, 0) else {
-        return Err(DivideFault::NoMemory);
-    };
-    divide_rows(alloc, f, f.terms(), g, mode, lead, inverse, &mut rows)
+    divide_rows(alloc, f, f.terms(), g, mode, Leading { term, inverse })
 }
 
 fn is_exact(mode: Mode) -> bool
@@ -69,22 +67,19 @@ fn is_refused<R: CoeffRing>(ring: R, mode: Mode, inverse: Option<R::E>) -> bool
     }
 }
 
-// divides by the rows of the divisor, whose leading term is `lead`
+// divides the dividend, whose terms are given, by the rows of the divisor and its leading term
 fn divide_rows<R: CoeffRing, M: Monomial>(
     alloc: Global,
     f: &Poly<R, M>,
     terms: &[Term<R, M>],
     g: &Poly<R, M>,
     mode: Mode,
-    lead: Term<R, M>,
-    inverse: Option<R::E>,
-    rows: &mut QuotientRows<'_, R, M>,
+    lead: Leading<M, R::E>,
 ) -> Result<Division<R, M>, DivideFault>
     requires moduli { f.now.modulus ≡ g.now.modulus }
     requires terms { AreTerms M.vector R.value (R.belongs f.now.modulus) M.order M.VARS M.LIM f.now terms.now }
     requires accepted { IsAccepted (division_of mode M.order M.VARS f.now g.now) }
-    requires leading { IsLeading M.vector R.value (R.belongs g.now.modulus) M.LIM g.now lead inverse }
-    requires rows { rows.old ≡ unlearned g.now }
+    requires leading { IsLeading M.vector R.value (R.belongs g.now.modulus) M.LIM g.now lead }
     ensures { MatchResult
         result
         (λ answer. IsAnswer (division_of mode M.order M.VARS f.now g.now) answer)
@@ -96,31 +91,26 @@ fn divide_rows<R: CoeffRing, M: Monomial>(
         dividend: f.norm(),
         divisor: g.norm(),
     };
+    let mut rows = QuotientRows::new(alloc, g, 1, 0)?;
     let mut norm = 0;
     let mut quotient = Vec::new(alloc);
     let mut rest = Vec::new(alloc);
     let mut read = 0;
     let mut steps = Steps::new();
-    while let Some(term) = take_next(ring, terms, &mut read, rows, &mut steps) {
+    while let Some(term) = take_next(ring, terms, &mut read, &mut rows, &mut steps) {
         if ring.is_zero(term.coef) {
             continue;
         }
-        let Some(found) = find(ring, lead, inverse, term, &mut steps) else {
+        let Some(found) = find(ring, lead, term, &mut steps) else {
             if is_exact(mode) {
                 return Ok(Division::NoQuotient);
             }
-            let Ok(()) = rest.push(term) else {
-                return Err(DivideFault::NoMemory);
-            };
+            rest.push(term)?;
             continue;
         };
         norm = with_term(norms, norm, quotient.len() + 1, ring.size(found.coef))?;
-        let Ok(()) = quotient.push(found) else {
-            return Err(DivideFault::NoMemory);
-        };
-        let Ok(()) = rows.reserve(1) else {
-            return Err(DivideFault::NoMemory);
-        };
+        quotient.push(found)?;
+        rows.reserve(1)?;
         rows.learn(found, &mut steps);
     }
     let q = Poly::from_ordered(ring, quotient);

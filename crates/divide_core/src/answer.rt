@@ -1,7 +1,10 @@
 //! The answers of a division.
+ghost use Rattle.std.specs.Prelude.{◌≡◌};
+
 use canonical_terms::Poly;
 use coeff_ring::CoeffRing;
 use packed_monomial::Monomial;
+use std::alloc::AllocFailed;
 
 /// What a division gives: the quotient of an exact division, or that there is none; or the quotient and the remainder, no monomial of which is divisible by the leading monomial of the divisor.
 #[derive(Drop)]
@@ -19,4 +22,24 @@ pub enum DivideFault {
     CoefficientBound,
     TermBound,
     NoMemory,
+}
+
+impl From<sdmp_laws::NoMemory> for DivideFault {
+    ghost use Rattle.divide_core.specs.declared.answer.DivideFault.TheVariants.{NoMemory};
+
+    ghost from_gives = { λ _ e. e ≡ NoMemory };
+
+    fn from(_: sdmp_laws::NoMemory) -> DivideFault {
+        DivideFault::NoMemory
+    }
+}
+
+impl<T: Drop> From<AllocFailed<T>> for DivideFault {
+    ghost use Rattle.divide_core.specs.declared.answer.DivideFault.TheVariants.{NoMemory};
+
+    ghost from_gives = { λ _ e. e ≡ NoMemory };
+
+    fn from(_: AllocFailed<T>) -> DivideFault {
+        DivideFault::NoMemory
+    }
 }

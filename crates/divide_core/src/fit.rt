@@ -4,7 +4,7 @@ ghost use Rattle.sdmp_laws.specs.Order.{degree};
 ghost use Rattle.sdmp_laws.specs.Ring.{red, IsReduced, IsUnit, IsInverse};
 ghost use Rattle.sdmp_laws.specs.Poly.{Term};
 ghost use Rattle.canonical_terms.specs.View.{term_of};
-ghost use Rattle.divide_core.specs.Dividing.{IsFit};
+ghost use Rattle.divide_core.specs.Dividing.{IsTermQuotient};
 
 use canonical_terms::{Term, TermOf};
 use coeff_ring::CoeffRing;
@@ -37,34 +37,41 @@ pub fn fitting<R: CoeffRing>(
     }
 }
 
-/// The term whose product with `lead` has the monomial and the coefficient of `term`, and None exactly where there is none.
+/// The leading term of a divisor, and the inverse of its coefficient where that is a unit, which is computed once for all terms.
+#[derive(Clone, Copy)]
+pub struct Leading<M, E> {
+    pub term: TermOf<M, E>,
+    pub inverse: Option<E>,
+}
+
+/// The term whose product with the leading one has the monomial and the coefficient of `term`, and None exactly where there is none.
 pub fn find<R: CoeffRing, M: Monomial>(
     ring: R,
-    lead: Term<R, M>,
-    inverse: Option<R::E>,
+    lead: Leading<M, R::E>,
     term: Term<R, M>,
     steps: &mut Steps,
 ) -> Option<Term<R, M>>
-    requires lead { R.belongs (R.characteristic ring) lead.coef }
+    requires lead { R.belongs (R.characteristic ring) lead.term.coef }
     requires coef { R.belongs (R.characteristic ring) term.coef }
-    requires nonzero { R.value lead.coef ≢ pos 0 }
+    requires nonzero { R.value lead.term.coef ≢ pos 0 }
     requires inverse { MatchOption
-        inverse
-        (IsUnit (R.characteristic ring) (R.value lead.coef) → ⊥)
-        (λ v. R.belongs (R.characteristic ring) v × IsInverse (R.characteristic ring) (R.value lead.coef) (R.value v)) }
-    requires lead_low { degree (M.vector lead.mono) ≤ M.LIM }
+        lead.inverse
+        (IsUnit (R.characteristic ring) (R.value lead.term.coef) → ⊥)
+        (λ v. R.belongs (R.characteristic ring) v × IsInverse (R.characteristic ring) (R.value lead.term.coef) (R.value v)) }
+    requires lead_low { degree (M.vector lead.term.mono) ≤ M.LIM }
     requires term_low { degree (M.vector term.mono) ≤ M.LIM }
     ensures { MatchOption
         result
-        ((x : Term) → IsFit (R.characteristic ring) (M.vector lead.mono) (R.value lead.coef) (term_of M.vector R.value term) x → ⊥)
-        (λ x. R.belongs (R.characteristic ring) x.coef × IsFit (R.characteristic ring) (M.vector lead.mono) (R.value lead.coef) (term_of M.vector R.value term) (term_of M.vector R.value x)) }
+        ((x : Term) → IsTermQuotient (R.characteristic ring) (M.vector lead.term.mono) (R.value lead.term.coef) (term_of M.vector R.value term) x → ⊥)
+        (λ x. R.belongs (R.characteristic ring) x.coef × IsTermQuotient (R.characteristic ring) (M.vector lead.term.mono) (R.value lead.term.coef) (term_of M.vector R.value term) (term_of M.vector R.value x)) }
 {
-    if !lead.mono.divides(term.mono) {
+    let first = lead.term;
+    if !first.mono.divides(term.mono) {
         return None;
     }
-    let coef = fitting(ring, lead.coef, inverse, term.coef, steps)?;
+    let coef = fitting(ring, first.coef, lead.inverse, term.coef, steps)?;
     Some(TermOf {
-        mono: term.mono.over(lead.mono),
+        mono: term.mono.over(first.mono),
         coef,
     })
 }

@@ -6,8 +6,6 @@ mod answer;
 mod bound;
 mod fit;
 mod next;
-#[cfg(test)]
-mod tests;
 
 pub use alone::divide_alone;
 pub use answer::{DivideFault, Division};

@@ -1,7 +1,7 @@
 -- The computed answer of a division is its one answer.
 use Rattle.std.proofs.Common.{◌≡◌, ◌≢◌, ℕ, zero, suc, ◌+◌, ◌-◌, ◌*◌, ◌<◌, ◌≤◌, ◌⊎◌, inl, inr, ◌||◌, not, Bool, true, false, cond, eqb, List, [], ◌∷◌, ◌++◌, length, take, drop, ℤ, pos, negsuc, ◌+ℤ◌, ◌*ℤ◌, neg_ℤ, unsigned_abs, refl, sym, ap, ◌∙◌, subst, arith, true≢false, eqb-true, eq-eqb, ltb-true, lt-ltb, leb-true, le-leb, lit<, length-append, mul-le-mul_right}
 use Rattle.std.proofs.lemmas.Int.{ints, unsigned_abs-mul}
-use Rattle.std.proofs.lemmas.Bool.{not-true, not-false}
+use Rattle.std.proofs.lemmas.Bool.{not-true, not-false, and_from, and_parts, or_cases, or_left, or_right}
 use Rattle.std.proofs.lemmas.List.{length-take, length-take-le, take-append-drop}
 use Rattle.std.proofs.Math.Seq.{take-append-add}
 use mathlib.Core.List.{IsPrefix}
@@ -14,11 +14,10 @@ use Rattle.sdmp_laws.specs.Limits.{greatest_norm, quotient_terms_limit}
 use Rattle.sdmp_laws.specs.declared.Mode.{Mode}
 use Rattle.sdmp_laws.specs.declared.Mode.TheVariants.{Exact, Remainder}
 use Rattle.sdmp_laws.proofs.Ints.{red_mul, red_red}
-use Rattle.sdmp_laws.proofs.Tests.{and_out, and_in, or_out, or_in_left, or_in_right}
 use Rattle.sdmp_laws.proofs.TermsLemmas.{is_zero_yes, head_facts}
 use Rattle.sdmp_laws.proofs.Parts.{norm_append}
 use Rattle.sdmp_laws.proofs.ReducedLemmas.{reduced_is}
-use Rattle.sdmp_laws.proofs.LongLemmas.{fronts_unique, quotient_unique, remainder_unique}
+use Rattle.sdmp_laws.proofs.LongLemmas.{same_from, fronts_unique, quotient_unique, remainder_unique}
 use Rattle.division_laws.specs.Outcome.{Outcome, OverZero, ByNoUnit, OverBound, OverTerms, HasQuotient, HasNoQuotient, HasRemainder, PassesEarly, IsLong, IsWithin, IsOutcome, is_empty, some_below, is_inverse, is_unit, asks_unit, looked_at, passes_early, is_long, ending, outcome, OneOutcome}
 
 -- ---- tests
@@ -43,7 +42,7 @@ empty_no (t ∷ L) e = λ z. cc
 some_yes : (k : ℕ) (test : ℕ → Bool) → some_below k test ≡ true → (v : ℕ) × (test v ≡ true)
 unfolding some_below
 some_yes zero test e = absurd (true≢false (sym e))
-some_yes (suc k) test e = pick (λ f. some_yes k test f) (or_out (test k) (some_below k test) e)
+some_yes (suc k) test e = pick (λ f. some_yes k test f) (or_cases (test k) (some_below k test) e)
   where
     pick : (some_below k test ≡ true → (v : ℕ) × (test v ≡ true)) → (test k ≡ true) ⊎ (some_below k test ≡ true) → (v : ℕ) × (test v ≡ true)
     pick ih (inl h) = (k, h)
@@ -55,8 +54,8 @@ some_known zero test v l h = absurd (omega arith)
 some_known (suc k) test v l h = pick (λ m. some_known k test v m h) (eqb v k) refl
   where
     pick : (v < k → some_below k test ≡ true) → (b : Bool) → eqb v k ≡ b → (test k || some_below k test) ≡ true
-    pick ih true e = or_in_left (test k) (some_below k test) (ap test (sym (eqb-true v k e)) ∙ h)
-    pick ih false e = or_in_right (test k) (some_below k test) (ih (apart (eqb v k) refl e))
+    pick ih true e = or_left (test k) (some_below k test) (ap test (sym (eqb-true v k e)) ∙ h)
+    pick ih false e = or_right (test k) (some_below k test) (ih (apart (eqb v k) refl e))
       where
         apart : (b : Bool) → eqb v k ≡ b → b ≡ false → v < k
         apart b f g = let n : v ≢ k = λ z. true≢false (sym (eq-eqb v k z) ∙ f ∙ g) in omega (arith, n)
@@ -72,9 +71,6 @@ factor_of_one (suc zero) b e = refl
 factor_of_one (suc (suc a)) zero e = omega (arith, e)
 factor_of_one (suc (suc a)) (suc b) e = absurd (omega (arith, e))
 
-no_difference : (x y : ℤ) → x +ℤ neg_ℤ y ≡ pos 0 → x ≡ y
-no_difference x y e = omega (arith, ints)
-
 difference : (x y : ℤ) → x ≡ y → is_zero (x +ℤ neg_ℤ y) ≡ true
 unfolding is_zero
 difference x y e = let z : x +ℤ neg_ℤ y ≡ pos 0 = omega (arith, ints, e) in ap is_zero z
@@ -84,7 +80,7 @@ unfolding is_unit is_inverse
 unit_yes zero u r e = (r, (u, square_of_one u (eqb-true (unsigned_abs u) 1 e)))
 unit_yes (suc k) u r e =
     let v = some_yes (suc k) (is_inverse (suc k) u) e in
-    (r, (pos v.0, no_difference (red (suc k) (u *ℤ pos v.0)) (red (suc k) (pos 1)) (is_zero_yes _ v.1)))
+    (r, (pos v.0, same_from (red (suc k) (u *ℤ pos v.0)) (red (suc k) (pos 1)) (is_zero_yes _ v.1)))
 
 unit_known : (p : ℕ) (u : ℤ) → IsUnit p u → is_unit p u ≡ true
 unfolding is_unit is_inverse
@@ -156,8 +152,8 @@ no_front_empty (t ∷ q) rest n e = cc
 passes_yes : (d : Division) → IsAccepted d → passes_early d ≡ true → PassesEarly d
 unfolding passes_early looked_at
 passes_yes d a e =
-    let s = and_out (eqb d.p 0) _ e in
-    let t = and_out (not (is_empty (looked_at d))) _ s.1 in
+    let s = and_parts (eqb d.p 0) _ e in
+    let t = and_parts (not (is_empty (looked_at d))) _ s.1 in
     record {
       front = looked_at d;
       is = front_of d quotient_terms_limit a (empty_no (looked_at d) (not-true (is_empty (looked_at d)) t.0));
@@ -170,8 +166,8 @@ unfolding passes_early looked_at
 passes_known d a h =
     let b = begins_first quotient_terms_limit h.front (quotient_list d) (front_nonempty d h.front a h.is) h.few in
     let more : norm h.front ≤ norm (looked_at d) = omega (arith, norm_append h.front b.0, ap norm b.1) in
-    and_in (eqb d.p 0) _ (eq-eqb d.p 0 h.over.integers)
-    (and_in (not (is_empty (looked_at d))) _
+    and_from (eqb d.p 0) _ (eq-eqb d.p 0 h.over.integers)
+    (and_from (not (is_empty (looked_at d))) _
     (ap not (by_absurd_not (is_empty (looked_at d)) (λ z. no_front_empty h.front b.0 h.is.nonzero (sym b.1 ∙ empty_yes (looked_at d) z))))
     (lt-ltb greatest_norm (norm d.f + norm (looked_at d) * norm d.g) (omega (arith, h.over.over, mul-le-mul_right (norm d.g) more))))
 

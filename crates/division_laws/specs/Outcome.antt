@@ -1,6 +1,8 @@
 -- What a division answers: said by the relations of division, and computed.
 use Rattle.std.specs.Prelude.{◌≡◌, ◌≢◌, ℕ, zero, suc, ◌+◌, ◌*◌, ◌≤◌, ◌⊎◌, ◌&&◌, ◌||◌, not, Bool, true, false, cond, eqb, ltb, leb, List, [], ◌∷◌, length, take, ℤ, pos, ◌+ℤ◌, ◌*ℤ◌, neg_ℤ, unsigned_abs}
+use Rattle.sdmp_laws.specs.Order.{Order}
 use Rattle.sdmp_laws.specs.Ring.{red, IsUnit}
+use Rattle.sdmp_laws.specs.Canonical.{Polynomial}
 use Rattle.sdmp_laws.specs.Poly.{Term, norm, IsPoly, is_zero, lc}
 use Rattle.sdmp_laws.specs.Division.{Division, IsAccepted, IsExact, IsRem, IsFront}
 use Rattle.sdmp_laws.specs.LongDivision.{quotient_list}
@@ -8,6 +10,14 @@ use Rattle.sdmp_laws.specs.DivisionLaws.{rest_list}
 use Rattle.sdmp_laws.specs.Limits.{greatest_norm, quotient_terms_limit, Passes}
 use Rattle.sdmp_laws.specs.declared.Mode.{Mode}
 use Rattle.sdmp_laws.specs.declared.Mode.TheVariants.{Exact, Remainder}
+
+-- the division of f by g, lists of terms in n variables modulo p
+abbrev pub division : Mode → Order → ℕ → ℕ → List Term → List Term → Division
+division mode ord n p f g = record { mode = mode; ord = ord; p = p; n = n; f = f; g = g }
+
+-- the division of two polynomials
+abbrev pub division_of : Mode → Order → ℕ → Polynomial → Polynomial → Division
+division_of mode ord n f g = division mode ord n f.modulus f.list g.list
 
 -- what a division answers
 pub data Outcome : Type 0 where

@@ -30,6 +30,8 @@ impl<R: CoeffRing, M: Monomial> Named for Merge<R, M> {
 
     ghost follows = { NoneBelow };
 
+    ghost whole = { IsSound M.LIM };
+
     ghost follows_itself = { NoneBelow-itself };
 }
 

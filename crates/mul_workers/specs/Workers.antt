@@ -29,10 +29,19 @@ abbrev pub patience : ℕ
 patience = 64
 
 module _ {X M E : Type 0} where
-  -- a receipt comes of an advance in the turnstile, of a merge that reads these rings; none comes only where the turnstile was found held so often as is tried
-  abbrev pub IsReceipt : List RingName → Pass MergeView → Pass MergeView → Option (Advanced X M E) → Type 0
-  IsReceipt names p q None = busy p + patience ≤ busy q
-  IsReceipt names p q (Some x) = (entries p < entries q) × (x.merge.value.rings ≡ names)
+  -- a receipt comes of an advance in the turnstile, of a merge that reads these rings; none comes only where so many tries found the turnstile held
+  abbrev pub IsReceipt : List RingName → ℕ → Pass MergeView → Pass MergeView → Option (Advanced X M E) → Type 0
+  IsReceipt names tries p q None = busy p + tries ≤ busy q
+  IsReceipt names tries p q (Some x) = (entries p < entries q) × (x.merge.value.rings ≡ names)
+
+  -- one more try: the receipt of an advance, or one more that found the turnstile held
+  abbrev pub TriesOnce : List RingName → Pass MergeView → Pass MergeView → Option (Advanced X M E) → Option (Advanced X M E) → Type 0
+  TriesOnce names p q a b = (s : Pass MergeView) (tries : ℕ) → entries s ≤ entries p → IsReceipt names tries s p a → IsReceipt names (tries + 1) s q b
+
+  -- after so many tries with no receipt a worker may give up
+  abbrev pub MayGiveUp : ℕ → Option (Advanced X M E) → Type 0
+  MayGiveUp tries None = patience ≤ tries
+  MayGiveUp tries (Some x) = Unit {0}
 
   -- why the worker stopped
   abbrev pub IsStop : List RingName → SenderView → SenderView → Option (Pass MergeView) → Option (Pass MergeView) → Stop X M E → Type 0

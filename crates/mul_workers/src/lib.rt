@@ -8,12 +8,14 @@ mod sender;
 mod stop;
 mod team;
 mod threaded;
+mod waiting;
 mod worker;
 
 pub use product::{MulFault, Product};
 pub use stop::Stop;
 pub use threaded::multiply;
-pub use worker::{MulWorker, PATIENCE};
+pub use waiting::PATIENCE;
+pub use worker::MulWorker;
 
 #[cfg(test)]
 mod tests;

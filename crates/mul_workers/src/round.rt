@@ -57,12 +57,13 @@ fn take_back<R: CoeffRing, M: Monomial>(
     }
 }
 
-// each worker advances once, each in a thread of its own where one can be made
+// each worker advances once, in so many threads at most
 fn advance_all<T: Threads + Sync, R: CoeffRing, M: Monomial, G: Gate>(
     threads: &T,
     rings: &[Ring<R, M>],
     turnstile: &Turnstile<Merge<R, M>>,
     workers: &mut [MulWorker<'_, R, M>],
+    most: usize,
     gate: &G,
 )
     requires rings { (made_with turnstile.now).rings ≡ map ring_name rings.now }
@@ -78,7 +79,7 @@ fn advance_all<T: Threads + Sync, R: CoeffRing, M: Monomial, G: Gate>(
         {
             worker.advance(rings, turnstile, gate);
         };
-        thread::for_each_mut(threads, workers, count, &each);
+        thread::for_each_mut(threads, workers, most.max(1), &each);
     }
 }
 
@@ -108,6 +109,7 @@ fn around<T: Threads + Sync, R: CoeffRing, M: Monomial, G: Gate>(
     merge: Merge<R, M>,
     rings: &[Ring<R, M>],
     workers: &mut [MulWorker<'_, R, M>],
+    most: usize,
     gate: &G,
 ) -> Result<Merge<R, M>, NoMemory>
     requires rings { merge.rings ≡ map ring_name rings.now }
@@ -123,7 +125,7 @@ fn around<T: Threads + Sync, R: CoeffRing, M: Monomial, G: Gate>(
         return Err(NoMemory);
     };
     hand_out(&mut turnstile, workers);
-    advance_all(threads, rings, &turnstile, workers, gate);
+    advance_all(threads, rings, &turnstile, workers, most, gate);
     take_back(&turnstile, workers, &mut passes);
     Ok(turnstile.into_value(passes))
 }
@@ -154,13 +156,14 @@ fn settle<R: CoeffRing, M: Monomial>(
     last
 }
 
-/// One round: each worker advances once around the merge, beside the others where threads can be made; then the merge advances once, between two meetings with all workers. A round that does not end with the merge done takes notes. The one refusal is want of memory.
+/// One round: each worker advances once around the merge, in at most `most` threads; then the merge advances once, between two meetings with all workers. A round that does not end with the merge done takes notes. The one refusal is want of memory.
 pub(crate) fn round<T: Threads + Sync, R: CoeffRing, M: Monomial, G: Gate>(
     threads: &T,
     alloc: Global,
     merge: Merge<R, M>,
     rings: &[Ring<R, M>],
     workers: &mut [MulWorker<'_, R, M>],
+    most: usize,
     gate: &G,
 ) -> Result<(Merge<R, M>, Advanced<R, M>), NoMemory>
     requires rings { merge.rings ≡ map ring_name rings.now }
@@ -172,7 +175,7 @@ pub(crate) fn round<T: Threads + Sync, R: CoeffRing, M: Monomial, G: Gate>(
     ensures round { IfOk result (λ r. IsRound merge r.0 r.1.answer) }
     ensures receipt { IfOk result (λ r. (r.1.merge.value.state ≡ r.0.state) × (r.1.notes ≡ notes_count r.0.state.taken)) }
 {
-    let mut merge = around(threads, alloc, merge, rings, workers, gate)?;
+    let mut merge = around(threads, alloc, merge, rings, workers, most, gate)?;
     merge.reserve(1)?;
     let last = settle(rings, workers, &mut merge);
     Ok((merge, last))

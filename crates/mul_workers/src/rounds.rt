@@ -25,7 +25,7 @@ pub(crate) struct Finished<R: CoeffRing, M: Monomial> {
     pub(crate) rounds: u64,
 }
 
-/// Rounds until the merge is done, each of which begins with room for at least `room` terms.
+/// Rounds until the merge is done, each of which begins with room for at least `room` terms. The workers advance in at most `most` threads.
 pub(crate) fn finish<T: Threads + Sync, R: CoeffRing, M: Monomial, G: Gate>(
     threads: &T,
     alloc: Global,
@@ -33,6 +33,7 @@ pub(crate) fn finish<T: Threads + Sync, R: CoeffRing, M: Monomial, G: Gate>(
     rings: &[Ring<R, M>],
     workers: &mut [MulWorker<'_, R, M>],
     room: usize,
+    most: usize,
     gate: &G,
 ) -> Result<Finished<R, M>, NoMemory>
     requires rings { merge.rings ≡ map ring_name rings.now }
@@ -50,7 +51,7 @@ pub(crate) fn finish<T: Threads + Sync, R: CoeffRing, M: Monomial, G: Gate>(
     let mut rounds = 0u64;
     loop {
         merge.reserve(room)?;
-        let (next, last) = round(threads, alloc, merge, rings, workers, gate)?;
+        let (next, last) = round(threads, alloc, merge, rings, workers, most, gate)?;
         merge = next;
         rounds += 1;
         if let Advance::Done = last.answer() {

@@ -50,7 +50,11 @@ fn hire<'a, R: CoeffRing, M: Monomial>(
     };
     let (ring, writer, reader) = Ring::new(alloc, set.f.ring(), places, &script)?;
     let rows = RowMerge::new(alloc, set)?;
-    Ok((ring, reader, MulWorker::without_pass(worker, rows, writer)))
+    Ok((
+        ring,
+        reader,
+        MulWorker::without_pass(worker, rows, writer, places),
+    ))
 }
 
 impl<'a, R: CoeffRing, M: Monomial> Team<'a, R, M> {

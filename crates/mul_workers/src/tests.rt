@@ -273,6 +273,21 @@ fn workers_run_beside_each_other(rt: HostRuntime) -> Result<(), Fail> {
     Ok(())
 }
 
+// the one worker is held for another that never comes, until its turns are used up
+#[test]
+fn a_gate_gives_up(rt: HostRuntime) -> Result<(), Fail> {
+    let gate = PairGate {
+        turns: 1_000,
+        first: AtomicU64::new(0),
+        second: AtomicU64::new(0),
+        given_up: AtomicU64::new(0),
+    };
+    difference_in_two_variables(&rt, rt.alloc(), 1, 2, &gate)?;
+    assert_eq!(rt; gate.second.load(SeqCst), 0);
+    assert_eq!(rt; gate.given_up.load(SeqCst), 1);
+    Ok(())
+}
+
 #[test]
 fn takes_all_notes_in_few_rounds(rt: HostRuntime) -> Result<(), Fail> {
     let (rounds, notes) = difference_of_squares(&rt, rt.alloc(), 2, 2, &OpenGate)?;
@@ -371,22 +386,25 @@ fn no_gate_changes_the_answer(rt: HostRuntime) -> Result<(), Fail> {
     for workers in [1, 2, 64] {
         for places in [2, 1024] {
             difference_of_squares(&rt, alloc, workers, places, &OpenGate)?;
-            let last = LastGate::new(alloc, 0, workers)?;
+            // workers of one thread advance in their order
+            let end = workers.saturating_sub(1);
+            let last = LastGate::new(alloc, end, workers)?;
             difference_of_squares(&rt, alloc, workers, places, &last)?;
             if workers > 1 {
-                difference_of_squares(&rt, alloc, workers, places, &HoldGate::new(0, 1))?;
+                difference_of_squares(&rt, alloc, workers, places, &HoldGate::new(0, end))?;
             }
         }
     }
     for workers in [2, 3] {
         difference_in_two_variables(&rt, alloc, workers, 2, &OpenGate)?;
-        difference_in_two_variables(&rt, alloc, workers, 2, &HoldGate::new(0, 1))?;
-        let last = LastGate::new(alloc, 0, workers)?;
+        let end = workers.saturating_sub(1);
+        difference_in_two_variables(&rt, alloc, workers, 2, &HoldGate::new(0, end))?;
+        let last = LastGate::new(alloc, end, workers)?;
         difference_in_two_variables(&rt, alloc, workers, 2, &last)?;
     }
     zero_modulo_six(&rt, alloc, 2, 2, &OpenGate)?;
     zero_modulo_six(&rt, alloc, 2, 2, &HoldGate::new(0, 1))?;
-    let last = LastGate::new(alloc, 0, 2)?;
+    let last = LastGate::new(alloc, 1, 2)?;
     zero_modulo_six(&rt, alloc, 2, 2, &last)?;
     Ok(())
 }

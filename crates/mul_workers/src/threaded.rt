@@ -1,5 +1,5 @@
 //! The product of two polynomials by workers.
-ghost use Rattle.std.specs.Prelude.{◌≡◌, ◌+◌, ◌<◌, ◌≤◌, ℕ, List, IfOk, MatchResult};
+ghost use Rattle.std.specs.Prelude.{◌≡◌, ◌+◌, ◌^◌, ◌<◌, ◌≤◌, ℕ, List, IfOk, MatchResult};
 ghost use Rattle.sdmp_laws.specs.Poly.{Term, terms, times};
 ghost use Rattle.sdmp_laws.specs.Limits.{HasRoom};
 ghost use Rattle.bound_check.specs.Bounds.{IsPassed};
@@ -21,6 +21,58 @@ use turnstile::Gate;
 
 // an operand has fewer terms
 const TERMS: usize = 1 << 30;
+
+// the first round has room for no more terms
+const MOST_ROOM: usize = 1 << 20;
+
+// So many products, one for each pair of terms, have room for the sum of all in the first round, or for 64 times the terms of both factors, or for the most.
+fn first_room(left: usize, right: usize, products: usize) -> usize
+    requires { 1 + left + right < 2 ^ 58 }
+    ensures some { 0 < result }
+    ensures few { result ≤ 2 ^ 20 }
+{
+    let terms = 64 * (1 + left + right);
+    products.min(terms).min(MOST_ROOM).max(1)
+}
+
+// a thread is worth its start where so many products are to be made in it
+const THREAD_PRODUCTS: usize = 4096;
+
+// how many notes a worker has at most: one for each product of its rows, and the end
+fn notes_of_part(left: usize, right: usize, workers: u32) -> usize
+    requires workers { 0 < workers }
+    ensures some { 0 < result }
+{
+    let rows = left.div_ceil(workers as usize);
+    rows.saturating_mul(right).saturating_add(1)
+}
+
+// so many places are wanted, and no ring has more than its worker has notes
+fn enough_places(places: u32, notes: usize) -> u32
+    requires places { 0 < places }
+    requires notes { 0 < notes }
+    ensures some { 0 < result }
+    ensures within { result ≤ places }
+{
+    if notes < places as usize {
+        notes as u32
+    } else {
+        places
+    }
+}
+
+// In how many threads the workers advance: each in its own where a ring may become full, since its worker may then wait for the others; else in as many as the products are worth, at least in two.
+fn threads_for(workers: u32, products: usize, may_be_full: bool) -> usize
+    requires workers { 0 < workers }
+    ensures some { 0 < result }
+    ensures within { result ≤ workers }
+{
+    let all = workers as usize;
+    if may_be_full {
+        return all;
+    }
+    (products / THREAD_PRODUCTS + 1).max(2).min(all)
+}
 
 // the product of operands with room
 fn merged<T: Threads + Sync, R: CoeffRing, M: Monomial, G: Gate>(
@@ -48,6 +100,11 @@ fn merged<T: Threads + Sync, R: CoeffRing, M: Monomial, G: Gate>(
     if left >= TERMS || right >= TERMS {
         return Err(NoMemory);
     }
+    let products = left.saturating_mul(right);
+    let room = first_room(left, right, products);
+    let notes = notes_of_part(left, right, workers);
+    let most = threads_for(workers, products, notes > places as usize);
+    let places = enough_places(places, notes);
     let Team {
         rings,
         readers,
@@ -64,7 +121,8 @@ fn merged<T: Threads + Sync, R: CoeffRing, M: Monomial, G: Gate>(
         merge,
         rings.as_slice(),
         team.as_mut_slice(),
-        1 + left + right,
+        room,
+        most,
         gate,
     )?;
     Ok(Product {
@@ -84,9 +142,9 @@ fn refusal(bound: Bound) -> MulFault
     }
 }
 
-/// The product of `f` and `g`, by so many workers, from 1 to 64 in the program, whose rings have so many places, at least 1.
+/// The product of `f` and `g`, by so many workers, from 1 to 64 in the program, whose rings have so many places, at least 1, or as many as there are notes where these are fewer.
 ///
-/// Worker `w` merges the products of the terms of `f` at the places `i` with `i % workers == w`, and sends them through its ring; whichever worker finds its ring full advances the one merge of all rings. The work goes in rounds. In each the workers advance beside each other, each in a thread of its own where one can be made, until each has sent all or found its ring full; then the calling thread advances the merge, between two meetings of the ends of each ring. Each round but the last takes notes, so there are at most as many rounds as notes, and one more.
+/// Worker `w` merges the products of the terms of `f` at the places `i` with `i % workers == w`, and sends them through its ring; whichever worker finds its ring full advances the one merge of all rings. Each worker has a thread of its own, but where a ring has a place for each note of its worker there are fewer threads for fewer than 4096 products of two terms a worker, and at least two. The work goes in rounds. In each the workers advance beside each other, where threads can be made, until each has sent all or its ring stays full; then the calling thread advances the merge, between two meetings of the ends of each ring. Each round but the last takes notes, so there are at most as many rounds as notes, and one more.
 ///
 /// The refusals are those of `product_room`, before anything is started, and want of memory, which more than 2^30 - 1 terms of an operand are.
 pub fn multiply<T: Threads + Sync, R: CoeffRing, M: Monomial, G: Gate>(

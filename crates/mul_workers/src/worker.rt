@@ -1,32 +1,43 @@
 //! A worker of a product.
 ghost use Rattle.std.specs.Prelude.{◌≡◌, ◌≤◌, ℕ, map, [], Some};
 ghost use Rattle.whole_laws.specs.Notes.{Carry, script_list};
-ghost use Rattle.turnstile.specs.Passes.{made_with, IsPassOf, IsOutside, entries, busy};
+ghost use Rattle.turnstile.specs.Passes.{made_with, IsPassOf, IsOutside};
 ghost use Rattle.term_ring.specs.Ends.{sent, head_seen, head_loads};
 ghost use Rattle.term_ring.specs.Names.{NoneBelow, ring_name, writer_name, IsWriting};
 ghost use Rattle.term_ring.specs.Sending.{Sends, IsAmong, HasMet};
 ghost use Rattle.mul_workers.specs.Inside.{script_of_rows};
-ghost use Rattle.mul_workers.specs.Workers.{HasPass, IsReceipt, IsStop};
+ghost use Rattle.mul_workers.specs.Workers.{HasPass, IsStop};
 
 use crate::sender::Sender;
 use crate::stop::Stop;
+use crate::waiting::{Turns, wait};
 use coeff_ring::CoeffRing;
-use global_heap::{Advanced, Merge};
+use global_heap::Merge;
 use packed_monomial::Monomial;
 use row_merge::RowMerge;
-use std::thread;
 use step_count::Steps;
 use term_ring::{Full, Ring, Writer};
 use turnstile::{Gate, Pass, Turnstile};
-
-/// How often a worker whose ring is full tries the turnstile before it gives up.
-pub const PATIENCE: u64 = 64;
 
 /// A worker of a product: what it sends and how far it has come, and its pass of the turnstile around the merge.
 #[derive(Drop)]
 pub struct MulWorker<'a, R: CoeffRing, M: Monomial> {
     pub(crate) sender: Sender<'a, R, M>,
     pub(crate) pass: Option<Pass<Merge<R, M>>>,
+    turns: Turns,
+    filling: Filling,
+}
+
+// Words that nobody reads: workers stand side by side, and a line of the cache that one writes at each note is to hold no word of the next.
+#[derive(Drop)]
+struct Filling {
+    _words: [u64; 16],
+}
+
+impl Filling {
+    fn new() -> Filling {
+        Filling { _words: [0; 16] }
+    }
 }
 
 impl<'a, R: CoeffRing, M: Monomial> MulWorker<'a, R, M> {
@@ -50,14 +61,17 @@ impl<'a, R: CoeffRing, M: Monomial> MulWorker<'a, R, M> {
         MulWorker {
             sender: Sender::new(worker, rows, writer),
             pass: Some(pass),
+            turns: Turns::new(),
+            filling: Filling::new(),
         }
     }
 
-    // a worker that gets its pass later
+    // a worker that gets its pass later, and whose ring has so many places
     pub(crate) fn without_pass(
         worker: u32,
         rows: RowMerge<'a, R, M>,
         writer: Writer<R, M>,
+        places: u32,
     ) -> MulWorker<'a, R, M>
         requires worker { worker ≡ rows.worker }
         requires writing { IsWriting writer }
@@ -69,12 +83,14 @@ impl<'a, R: CoeffRing, M: Monomial> MulWorker<'a, R, M> {
         MulWorker {
             sender: Sender::new(worker, rows, writer),
             pass: None,
+            turns: Turns::of(places),
+            filling: Filling::new(),
         }
     }
 
     /// Sends the terms of the worker's part in order, and then its end, until the end is sent or the ring is full.
     ///
-    /// It first arrives at the gate, once, under its number, and waits for nothing else. Whenever the ring is full the worker tries the turnstile up to `PATIENCE` times, with a yield of its thread after each try that found it held, advances the merge once where it is let in, and pushes once more. If that push too finds the ring full, the call ends, and its note is kept for the next call. The answers of the merge's earlier advances in the call are dropped. It allocates nothing.
+    /// It first arrives at the gate, once, under its number. Whenever the ring is full the worker waits in turns: it tries the turnstile once, advances the merge once where it is let in, and pushes once more; where the ring is still full it yields its thread a few times. It goes on as many turns as its waiting was worth before, and at least `PATIENCE` where it was never let in, and ends at once where the merge has no room. If no push goes through the call ends, and its note is kept for the next call. The answers of the merge's earlier advances in the call are dropped. It allocates nothing.
     pub fn advance<G: Gate>(
         &mut self,
         rings: &[Ring<R, M>],
@@ -101,6 +117,7 @@ impl<'a, R: CoeffRing, M: Monomial> MulWorker<'a, R, M> {
             turnstile,
             &mut self.sender,
             pass,
+            &mut self.turns,
             &mut Steps::new(),
         )
     }
@@ -125,13 +142,14 @@ impl<'a, R: CoeffRing, M: Monomial> MulWorker<'a, R, M> {
     }
 }
 
-// Sends until the end is sent, or the ring stays full after a try of the turnstile.
+// Sends until the end is sent, or the ring stays full while the worker waits.
 fn work<R: CoeffRing, M: Monomial>(
     ring: &Ring<R, M>,
     rings: &[Ring<R, M>],
     turnstile: &Turnstile<Merge<R, M>>,
     sender: &mut Sender<'_, R, M>,
     pass: &mut Pass<Merge<R, M>>,
+    turns: &mut Turns,
     steps: &mut Steps,
 ) -> Stop<R, M>
     requires pass { IsPassOf turnstile.now pass.old × IsOutside pass.old }
@@ -146,34 +164,8 @@ fn work<R: CoeffRing, M: Monomial>(
         let Err(Full) = sender.send(ring, steps) else {
             return Stop::Ended;
         };
-        let receipt = advance_merge(rings, turnstile, pass, steps);
-        if let Err(Full) = sender.push(ring, steps) {
+        if let Err(receipt) = wait(ring, rings, turnstile, sender, pass, turns, steps) {
             return Stop::Full(receipt);
         }
     }
-}
-
-// Tries the turnstile, and advances the merge once where it is let in.
-fn advance_merge<R: CoeffRing, M: Monomial>(
-    rings: &[Ring<R, M>],
-    turnstile: &Turnstile<Merge<R, M>>,
-    pass: &mut Pass<Merge<R, M>>,
-    steps: &mut Steps,
-) -> Option<Advanced<R, M>>
-    requires pass { IsPassOf turnstile.now pass.old × IsOutside pass.old }
-    requires rings { (made_with turnstile.now).rings ≡ map ring_name rings.now }
-    ensures pass { IsPassOf turnstile.now pass.new × IsOutside pass.new }
-    ensures receipt { IsReceipt (map ring_name rings.now) pass.old pass.new result }
-    ensures entries { entries pass.old ≤ entries pass.new }
-    ensures busy { busy pass.old ≤ busy pass.new }
-{
-    for _ in 0..PATIENCE {
-        if let Ok(mut merge) = turnstile.try_enter(pass) {
-            let receipt = merge.advance(rings, steps);
-            turnstile.leave(pass, merge);
-            return Some(receipt);
-        }
-        thread::yield_now();
-    }
-    None
 }

@@ -13,6 +13,7 @@ pub mod TermLoop
 pub mod Weights
 pub mod Reduced
 pub mod WordLemmas
+pub mod Results
 pub mod NameLemmas
 pub mod StepTable
 pub mod ShortNumbers

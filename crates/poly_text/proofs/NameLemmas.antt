@@ -1,5 +1,6 @@
 -- Lemmas on names.
-use Rattle.std.proofs.Common.{◌≡◌, ◌==◌, Result, Ok, Err, IfErr, IsErrAnd, ◌≢◌, ◌≤◌, ◌<◌, ◌||◌, ◌&&◌, ◌⊎◌, ℕ, suc, zero, Bool, true, false, not, cond, List, [], ◌∷◌, ◌++◌, length, map, nat_le, All, Option, Some, None, IsUtf8, IsAscii, refl, sym, ap, ◌∙◌, subst, arith, append_assoc}
+use Rattle.std.proofs.Common.{◌≡◌, ◌==◌, Result, Ok, Err, ◌≢◌, ◌≤◌, ◌<◌, ◌||◌, ◌&&◌, ◌⊎◌, ℕ, suc, zero, Bool, true, false, not, cond, List, [], ◌∷◌, ◌++◌, length, map, nat_le, All, Option, Some, None, IsUtf8, IsAscii, refl, sym, ap, ◌∙◌, subst, arith, append_assoc}
+use Rattle.std.proofs.lemmas.Bool.{and_parts}
 use Rattle.std.proofs.lemmas.List.Elements.{All-nil, All-push}
 use Rattle.std.proofs.lemmas.Str.{IsUtf8-from_ascii}
 use Rattle.std.proofs.lemmas.Slice.Eq.{bytes_eq-Decides}
@@ -9,27 +10,14 @@ use Rattle.text_laws.specs.Bytes.{class_of}
 use Rattle.text_laws.specs.Grammar.{AreLettersOrDigits}
 use Rattle.text_laws.specs.Canonical.{IsNameText, NotIn, AreNames}
 use Rattle.text_laws.specs.declared.ByteClass.TheVariants.{Letter, Digit}
-use Rattle.poly_text.specs.Names.{is_digit, is_letter, is_name, is_among, is_reserved, word_fault, fault_behind, longest_name, most_names, names_of, unless}
+use Rattle.poly_text.specs.Names.{is_digit, is_letter, is_name, is_among, is_reserved, word_fault, fault_behind, names_of, unless}
+use Rattle.poly_text.specs.declared.names.TheConstants.{MOST_NAMES, LONGEST_NAME}
 use Rattle.poly_text.specs.declared.names.NamesFault.{NamesFault}
 use Rattle.poly_text.specs.declared.names.NamesFault.TheVariants.{Count, BadName, Reserved, Repeated}
 
 pub among_map : {X : Type 0} (f : X → List ℕ) (name : List ℕ) (xs : List X) → is_among name (map f xs) ≡ list_any (λ x. bytes_eq (f x) name) xs
 among_map f name [] = refl
 among_map f name (x ∷ xs) = ap (λ (b : Bool). bytes_eq (f x) name || b) (among_map f name xs)
-
--- `?` passes an error up as it is
-pub passed_up : {T E : Type 0} (r : Result T E) (e : E) (P : E → Type 0) → IsErrAnd r (λ y. y ≡ e) → P e → IfErr r P
-passed_up (Ok x) e P is p = tt
-passed_up (Err y) e P is p = subst P (sym is) p
-
--- ---- tests
-both_left : (a b : Bool) → (a && b) ≡ true → a ≡ true
-both_left true b h = refl
-both_left false b h = h
-
-both_right : (a b : Bool) → (a && b) ≡ true → b ≡ true
-both_right true b h = h
-both_right false b h = let wrong : false ≡ true = h in absurd cc
 
 -- ---- bytes
 letter_small : (b : ℕ) → is_letter b ≡ true → b < 128
@@ -49,14 +37,14 @@ letter_or_digit b h = grind arith
 -- ---- names
 all_small : (bytes : List ℕ) → list_all (λ b. is_letter b || is_digit b) bytes ≡ true → IsAscii bytes
 all_small [] h i = omega arith
-all_small (b ∷ bytes) h zero = small b (both_left (is_letter b || is_digit b) (list_all (λ b. is_letter b || is_digit b) bytes) h)
-all_small (b ∷ bytes) h (suc i) = all_small bytes (both_right (is_letter b || is_digit b) (list_all (λ b. is_letter b || is_digit b) bytes) h) i
+all_small (b ∷ bytes) h zero = small b (and_parts (is_letter b || is_digit b) (list_all (λ b. is_letter b || is_digit b) bytes) h).0
+all_small (b ∷ bytes) h (suc i) = all_small bytes (and_parts (is_letter b || is_digit b) (list_all (λ b. is_letter b || is_digit b) bytes) h).1 i
 
 name_ascii : (word : List ℕ) → is_name word ≡ true → IsAscii word
 name_ascii [] h i = let wrong : false ≡ true = h in absurd cc
-name_ascii (b ∷ bytes) h zero = letter_small b (both_left _ _ h)
+name_ascii (b ∷ bytes) h zero = letter_small b (and_parts _ _ h).0
 name_ascii (b ∷ bytes) h (suc i) =
-    all_small bytes (both_left (list_all (λ b. is_letter b || is_digit b) bytes) (nat_le (length (b ∷ bytes)) longest_name) (both_right (is_letter b) _ h)) i
+    all_small bytes (and_parts (list_all (λ b. is_letter b || is_digit b) bytes) (nat_le (length (b ∷ bytes)) LONGEST_NAME) (and_parts (is_letter b) _ h).1).0 i
 
 no_utf8_where : (word : List ℕ) (b : Bool) → is_name word ≡ b → (IsUtf8 word → ⊥) → b ≡ false
 no_utf8_where word true e h = absurd (h (IsUtf8-from_ascii word (name_ascii word e)))
@@ -70,30 +58,30 @@ no_utf8 word h = no_utf8_where word (is_name word) refl h
 -- names, none of them too long
 pub record AreSound (names : List (List ℕ)) : Type 0 where
   pub apart : AreNames names
-  pub short : All (λ name. length name ≤ longest_name) names
+  pub short : All (λ name. length name ≤ LONGEST_NAME) names
 
 pub sound_nil : AreSound []
-sound_nil = record { apart = tt; short = All-nil (λ name. length name ≤ longest_name) }
+sound_nil = record { apart = tt; short = All-nil (λ name. length name ≤ LONGEST_NAME) }
 
 are_letters_or_digits : (bytes : List ℕ) → list_all (λ b. is_letter b || is_digit b) bytes ≡ true → AreLettersOrDigits bytes
 are_letters_or_digits [] h = tt
 are_letters_or_digits (b ∷ bytes) h =
     let rest = list_all (λ b. is_letter b || is_digit b) bytes in
-    (letter_or_digit b (both_left (is_letter b || is_digit b) rest h), are_letters_or_digits bytes (both_right (is_letter b || is_digit b) rest h))
+    (letter_or_digit b (and_parts (is_letter b || is_digit b) rest h).0, are_letters_or_digits bytes (and_parts (is_letter b || is_digit b) rest h).1)
 
 name_text : (word : List ℕ) → is_name word ≡ true → IsNameText word
 name_text [] h = let wrong : false ≡ true = h in absurd cc
 name_text (b ∷ bytes) h =
     let rest = list_all (λ b. is_letter b || is_digit b) bytes in
-    let fits = nat_le (length (b ∷ bytes)) longest_name in
-    (letter_class b (both_left (is_letter b) (rest && fits) h), are_letters_or_digits bytes (both_left rest fits (both_right (is_letter b) (rest && fits) h)))
+    let fits = nat_le (length (b ∷ bytes)) LONGEST_NAME in
+    (letter_class b (and_parts (is_letter b) (rest && fits) h).0, are_letters_or_digits bytes (and_parts rest fits (and_parts (is_letter b) (rest && fits) h).1).0)
 
-name_short : (word : List ℕ) → is_name word ≡ true → length word ≤ longest_name
+name_short : (word : List ℕ) → is_name word ≡ true → length word ≤ LONGEST_NAME
 name_short [] h = let wrong : false ≡ true = h in absurd cc
 name_short (b ∷ bytes) h =
     let rest = list_all (λ b. is_letter b || is_digit b) bytes in
-    let fits = nat_le (length (b ∷ bytes)) longest_name in
-    let fit : fits ≡ true = both_right rest fits (both_right (is_letter b) (rest && fits) h) in
+    let fits = nat_le (length (b ∷ bytes)) LONGEST_NAME in
+    let fit : fits ≡ true = (and_parts rest fits (and_parts (is_letter b) (rest && fits) h).1).1 in
     grind arith
 
 -- none is among none
@@ -141,7 +129,7 @@ sound_push earlier word sound none =
     let f = fresh earlier word none in
     record {
       apart = names-push earlier word sound.apart (name_text word f.name) f.fresh;
-      short = All-push (λ name. length name ≤ longest_name) earlier word sound.short (name_short word f.name);
+      short = All-push (λ name. length name ≤ LONGEST_NAME) earlier word sound.short (name_short word f.name);
     }
 
 -- ---- the first fault
@@ -172,20 +160,20 @@ pub fault_later : (earlier : List (List ℕ)) (word : List ℕ) (words : List (L
 fault_later earlier word words e =
     fault_behind-cons earlier word words ∙ ap (λ (o : Option NamesFault). after_word o (fault_behind (earlier ++ word ∷ []) words)) e
 
-counted : (words : List (List ℕ)) → 0 < length words → length words ≤ most_names → names_of words ≡ unless (fault_behind [] words) words
+counted : (words : List (List ℕ)) → 0 < length words → length words ≤ MOST_NAMES → names_of words ≡ unless (fault_behind [] words) words
 counted words some few =
-    let tested : (length words == 0 || not (nat_le (length words) most_names)) ≡ false = grind arith in
+    let tested : (length words == 0 || not (nat_le (length words) MOST_NAMES)) ≡ false = grind arith in
     ap (λ (b : Bool). cond b (Err Count) (unless (fault_behind [] words) words)) tested
 
 -- a word with a fault refuses the words
-pub refused_by : (words earlier rest later : List (List ℕ)) (word : List ℕ) (fault : NamesFault) → 0 < length words → length words ≤ most_names →
+pub refused_by : (words earlier rest later : List (List ℕ)) (word : List ℕ) (fault : NamesFault) → 0 < length words → length words ≤ MOST_NAMES →
     fault_behind earlier rest ≡ fault_behind [] words → rest ≡ word ∷ later → word_fault earlier word ≡ Some fault → names_of words ≡ Err fault
 refused_by words earlier rest later word fault some few so_far cut wrong =
     counted words some few
     ∙ ap (λ (o : Option NamesFault). unless o words) (sym so_far ∙ ap (fault_behind earlier) cut ∙ fault_here earlier word later fault wrong)
 
 -- the words are names where none is left
-pub accepted : (words earlier : List (List ℕ)) → 0 < length words → length words ≤ most_names →
+pub accepted : (words earlier : List (List ℕ)) → 0 < length words → length words ≤ MOST_NAMES →
     fault_behind earlier [] ≡ fault_behind [] words → earlier ≡ words → names_of words ≡ Ok earlier
 accepted words earlier some few so_far all =
     counted words some few ∙ ap (λ (o : Option NamesFault). unless o words) (sym so_far ∙ fault_none earlier) ∙ ap (λ (ws : List (List ℕ)). Ok ws) (sym all)

@@ -1,8 +1,9 @@
 -- A formal sum and the same one with its coefficients reduced.
-use Rattle.std.proofs.Common.{◌≡◌, ℕ, Bool, true, false, cond, List, [], ◌∷◌, length, Option, Some, None, Ok, Err, refl, sym, ◌∙◌, ap}
+use Rattle.std.proofs.Common.{◌≡◌, ◌≤◌, ℕ, Bool, true, false, cond, List, [], ◌∷◌, length, Option, Some, None, Ok, Err, refl, sym, ◌∙◌, ap, subst}
 use Rattle.std.specs.Prelude.{◌+ℤ◌, MatchOption}
 use Rattle.sdmp_laws.specs.Order.{Order, alike}
-use Rattle.sdmp_laws.specs.Poly.{Term, total, Over, terms}
+use Rattle.sdmp_laws.specs.Limits.{greatest_norm}
+use Rattle.sdmp_laws.specs.Poly.{Term, total, norm, Over, terms}
 use Rattle.sdmp_laws.specs.Ring.{red}
 use Rattle.sdmp_laws.proofs.Ints.{red_add, red_red}
 use Rattle.sdmp_laws.proofs.PolyLemmas.{from_total}
@@ -15,7 +16,7 @@ use Rattle.text_laws.specs.Summands.{summands, written_terms, verdict}
 use Rattle.text_laws.specs.declared.TextFault.{TextFault}
 use Rattle.text_laws.specs.declared.TextFault.TheVariants as faults
 use Rattle.text_laws.proofs.Denoting.{denotes_is, denotes_syntax, place_is}
-use Rattle.text_laws.proofs.Limits.{terms_over}
+use Rattle.text_laws.proofs.Limits.{faultless, terms_over, norm_within}
 use Rattle.text_laws.proofs.OneReading.{denotes_fault}
 use Rattle.poly_text.specs.ReadsTerms.{reduced, ReadsTree}
 
@@ -74,3 +75,19 @@ terms_read terms_in ord names p lim bytes o v L e n r l = by (syntax_is bytes o 
         let F : List Term = written_terms names (summands t) in
         let d : denotes names p lim bytes ≡ Ok F = (denotes_is names p lim bytes (Ok F)).0 (t, s, (r t s).0) in
         ap (summed ord p) d ∙ ap (λ L. Ok L) (sym (l ∙ ap (terms ord p) (r t s).1 ∙ terms_reduced ord p (length names) F (terms_over names (summands t))))
+
+-- ---- the bound on norms
+reduced_same : (F : List Term) → reduced 0 F ≡ F
+reduced_same [] = refl
+reduced_same (t ∷ F) = ap (λ (G : List Term). t ∷ G) (reduced_same F)
+
+-- over the integers the terms of a text that has no fault are within the bound
+pub norm_read : {X : Type 0} (terms_in : X → List Term) (names : List (List ℕ)) (p lim : ℕ) (bytes : List ℕ) (o : Option ℕ) (v : X) → o ≡ fault_place bytes → o ≡ None
+    → ((t : Tree) → Spells t bytes → ReadsTree terms_in names p lim t (Ok v)) → p ≡ 0 → norm (terms_in v) ≤ greatest_norm
+norm_read terms_in names p lim bytes o v e n r z = by (syntax_is bytes o e n)
+  where
+    by : IsText bytes → norm (terms_in v) ≤ greatest_norm
+    by (t, s) =
+        let F : List Term = written_terms names (summands t) in
+        let is : terms_in v ≡ F = (r t s).1 ∙ ap (λ (q : ℕ). reduced q F) z ∙ reduced_same F in
+        subst (λ (L : List Term). norm L ≤ greatest_norm) (sym is) (norm_within names p (summands t) (faultless names p lim (summands t) F (r t s).0).coefficients z)

@@ -10,6 +10,7 @@ use Rattle.text_laws.specs.declared.ByteClass.{ByteClass}
 use Rattle.text_laws.specs.declared.ByteClass.TheVariants as classes
 use Rattle.text_laws.specs.declared.State.{State}
 use Rattle.text_laws.specs.declared.State.TheVariants as states
+use Rattle.text_laws.proofs.Texts.{live_before}
 use Rattle.poly_text.specs.Codes.{code_of, digit_of}
 use Rattle.poly_text.specs.declared.class.TheConstants.{CLASSES}
 use Rattle.poly_text.specs.declared.syntax.TheConstants.{STEPS}
@@ -147,25 +148,10 @@ pub at_end : (bytes : List ℕ) (i code : ℕ) (r : Bool) → length bytes ≤ i
 at_end bytes i code r h whole a = whole a.state a.code_is ∙ ap is_whole (sym (ap (run a.state) (drop_all i bytes h)) ∙ a.left)
 
 -- ---- a whole text has no fault
-dead_stays : (bs : List ℕ) → run states.Dead bs ≡ states.Dead
-dead_stays [] = refl
-dead_stays (b ∷ bs) = dead_stays bs
-
-lives : (s : State) (bs : List ℕ) → is_whole (run s bs) ≡ true → is_live s ≡ true
-lives states.Dead bs h = absurd (true≢false (sym (sym (ap is_whole (dead_stays bs)) ∙ h)))
-lives states.Start bs h = refl
-lives states.Term bs h = refl
-lives states.Number bs h = refl
-lives states.NumberEnd bs h = refl
-lives states.Power bs h = refl
-lives states.Name bs h = refl
-lives states.NameEnd bs h = refl
-lives states.Exponent bs h = refl
-
 fault_none : (s : State) (at : ℕ) (bs : List ℕ) → is_whole (run s bs) ≡ true → fault_from s at bs ≡ None
 fault_none s at [] h = ap (λ b. cond b None (Some at)) h
 fault_none s at (b ∷ bs) h =
-    ap (λ v. cond v (fault_from (next s (class_of b)) (suc at) bs) (Some at)) (lives (next s (class_of b)) bs h)
+    ap (λ v. cond v (fault_from (next s (class_of b)) (suc at) bs) (Some at)) (live_before (next s (class_of b)) bs h)
     ∙ fault_none (next s (class_of b)) (suc at) bs h
 
 pub no_fault : (bytes : List ℕ) → is_whole (run start bytes) ≡ true → None ≡ fault_place bytes

@@ -1,5 +1,5 @@
 -- The loop over the terms of a text.
-use Rattle.std.proofs.Common.{◌≡◌, ◌<◌, ◌≤◌, ◌+◌, ℕ, ℤ, zero, suc, Bool, true, false, min, cond, ltb, eqb, List, [], ◌∷◌, ◌++◌, length, drop, get_or, Option, Some, None, Ok, Err, refl, sym, ◌∙◌, ap, subst, append_assoc, append-nil, length-drop, length-append, arith}
+use Rattle.std.proofs.Common.{◌≡◌, ◌<◌, ◌≤◌, ◌+◌, ℕ, ℤ, zero, suc, Bool, true, false, min, cond, ltb, eqb, List, [], ◌∷◌, ◌++◌, length, drop, get_or, Option, Some, None, Result, Ok, Err, IfOk, refl, sym, ◌∙◌, ap, subst, append_assoc, append-nil, length-drop, length-append, arith}
 use Rattle.std.specs.Prelude.{MatchOption, is_some, is_none, not}
 use Rattle.std.proofs.lemmas.List.{drop_more, drop_all, map-append}
 use Rattle.std.proofs.lemmas.Bool.Decides.{nat_tests}
@@ -13,10 +13,11 @@ use Rattle.text_laws.specs.Summands.{Summand, unknown, product_at, signed_at, su
 use Rattle.text_laws.specs.Reading.{is_blank, is_sign}
 use Rattle.text_laws.specs.declared.ByteClass.{ByteClass}
 use Rattle.text_laws.specs.declared.ByteClass.TheVariants.{Digit, Letter}
+use Rattle.text_laws.specs.declared.TextFault.{TextFault}
 use Rattle.text_laws.specs.declared.TextFault.TheVariants as faults
 use Rattle.text_laws.proofs.Fronts.{Stop, blanks_are}
 use Rattle.poly_text.specs.Tokens.{after, sign_front, cap}
-use Rattle.poly_text.specs.ReadsTerms.{weight, minus_front, ReadsTerm, pushed, reduced}
+use Rattle.poly_text.specs.ReadsTerms.{weight, minus_front, ReadsTerm, ReadsTree, IsWithin, pushed, reduced}
 use Rattle.poly_text.specs.declared.factors.UnknownName.{UnknownName}
 use Rattle.poly_text.specs.declared.terms.TermRead.{TermRead}
 use Rattle.poly_text.proofs.TokenFronts.{after_front}
@@ -270,12 +271,26 @@ ended names bytes p lim t i sum deg coef P l h = by l.others l.spelled l.found
         }
     by (g ∷ ss) e f = absurd (nil_cons g.sign.byte (g.sign.blanks ++ (spell_product g.term ++ spell_signed ss)) (sym (drop_all i bytes h) ∙ e))
 
-pub fault_degree : (names : List (List ℕ)) (p lim at : ℕ) (t : Tree) (deg coef : Option ℕ) (P : List Term) → deg ≡ Some at → Ended names p lim t deg coef P → verdict names p lim (summands t) ≡ Err (faults.DegreeBound at)
+fault_degree : (names : List (List ℕ)) (p lim at : ℕ) (t : Tree) (deg coef : Option ℕ) (P : List Term) → deg ≡ Some at → Ended names p lim t deg coef P → verdict names p lim (summands t) ≡ Err (faults.DegreeBound at)
 fault_degree names p lim at t deg coef P d e = e.verdict ∙ ap (λ o. refused (λ k. faults.DegreeBound k) o (refused (λ k. faults.CoefficientBound k) coef (Ok (written_terms names (summands t))))) d
 
-pub fault_coefficient : (names : List (List ℕ)) (p lim at : ℕ) (t : Tree) (deg coef : Option ℕ) (P : List Term) → deg ≡ None → coef ≡ Some at → Ended names p lim t deg coef P → verdict names p lim (summands t) ≡ Err (faults.CoefficientBound at)
+fault_coefficient : (names : List (List ℕ)) (p lim at : ℕ) (t : Tree) (deg coef : Option ℕ) (P : List Term) → deg ≡ None → coef ≡ Some at → Ended names p lim t deg coef P → verdict names p lim (summands t) ≡ Err (faults.CoefficientBound at)
 fault_coefficient names p lim at t deg coef P d c e = e.verdict ∙ (λ j. refused (λ k. faults.DegreeBound k) (d j) (refused (λ k. faults.CoefficientBound k) (c j) (Ok (written_terms names (summands t)))))
 
-pub no_fault : (names : List (List ℕ)) (p lim : ℕ) (t : Tree) (deg coef : Option ℕ) (P : List Term) → deg ≡ None → coef ≡ None → Ended names p lim t deg coef P
+no_fault : (names : List (List ℕ)) (p lim : ℕ) (t : Tree) (deg coef : Option ℕ) (P : List Term) → deg ≡ None → coef ≡ None → Ended names p lim t deg coef P
     → (verdict names p lim (summands t) ≡ Ok (written_terms names (summands t))) × (P ≡ reduced p (written_terms names (summands t)))
 no_fault names p lim t deg coef P d c e = (e.verdict ∙ (λ j. refused (λ k. faults.DegreeBound k) (d j) (refused (λ k. faults.CoefficientBound k) (c j) (Ok (written_terms names (summands t))))), e.terms d c)
+
+-- the terms that were read, or the first place with a fault, are what the tree gives
+pub judged : {X : Type 0} (terms_in : X → List Term) (names : List (List ℕ)) (p lim : ℕ) (t : Tree) (deg coef : Option ℕ) (v : X) (r : Result X TextFault) → Ended names p lim t deg coef (terms_in v) → IsWithin deg coef v r → ReadsTree terms_in names p lim t r
+judged terms_in names p lim t deg coef v (Ok w) e (same, d, c) = subst (λ x. ReadsTree terms_in names p lim t (Ok x)) (sym same) (no_fault names p lim t deg coef (terms_in v) d c e)
+judged terms_in names p lim t deg coef v (Err (faults.DegreeBound at)) e d = fault_degree names p lim at t deg coef (terms_in v) d e
+judged terms_in names p lim t deg coef v (Err (faults.CoefficientBound at)) e (d, c) = fault_coefficient names p lim at t deg coef (terms_in v) d c e
+judged terms_in names p lim t deg coef v (Err (faults.Syntax at)) e h = absurd h
+judged terms_in names p lim t deg coef v (Err (faults.UnknownName at)) e h = absurd h
+judged terms_in names p lim t deg coef v (Err faults.NoMemory) e h = absurd h
+
+-- what holds of the terms holds of what is given of them
+pub within_too : {X : Type 0} (P : X → Type 0) (deg coef : Option ℕ) (v : X) (r : Result X TextFault) → IsWithin deg coef v r → P v → IfOk r P
+within_too P deg coef v (Ok w) h p = subst P (sym h.0) p
+within_too P deg coef v (Err f) h p = tt

@@ -14,6 +14,13 @@ use Rattle.text_laws.proofs.Fronts.{Stop, blanks_are, digits_are, words_are, end
 use Rattle.poly_text.specs.Tokens.{after, cap, capped_front, raised_front, power_front}
 use Rattle.poly_text.specs.Exponents.{top}
 
+-- from start on the bytes up to i are digits, which write n behind the number
+pub record IsAmongDigits (bytes : List ℕ) (start i number n : ℕ) : Type 0 where
+  pub bound : i ≤ length bytes
+  pub from : start ≤ i
+  pub same : after is_digit (drop i bytes) ≡ after is_digit (drop start bytes)
+  pub value : capped_front n (drop i bytes) ≡ capped_front number (drop start bytes)
+
 pub after_front : (p : ByteClass → Bool) (ds rest : List ℕ) → Each (λ c. p c ≡ true) ds → Stop p rest → after p (ds ++ rest) ≡ rest
 after_front p [] [] h g = refl
 after_front p [] (b ∷ rest) h g = ap (λ c. cond c (after p rest) (b ∷ rest)) g

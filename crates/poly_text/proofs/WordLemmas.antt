@@ -1,6 +1,7 @@
 -- Lemmas on the words of a line.
 use Rattle.std.proofs.Common.{◌≡◌, ◌<◌, ◌≤◌, ℕ, Bool, true, false, not, ◌&&◌, cond, List, [], ◌∷◌, ◌++◌, length, take, drop, get_or, refl, sym, ap, subst, ◌∙◌, arith}
 use Rattle.std.proofs.lemmas.List.{take-append-drop, drop_more, drop_all, length-take-le, nil_from_length}
+use Rattle.std.proofs.lemmas.Bool.{and_parts}
 use Rattle.std.specs.List.{list_all}
 use Rattle.poly_text.specs.Words.{is_space, word_before, words_of}
 
@@ -31,14 +32,6 @@ last_byte byte (next ∷ rest) [] h = refl
 last_byte byte (next ∷ rest) (word ∷ words) h =
     ap (λ (b : Bool). cond b ((byte ∷ []) ∷ word ∷ words) ((byte ∷ word) ∷ words)) h
 
-both_left : (a b : Bool) → (a && b) ≡ true → a ≡ true
-both_left true b h = refl
-both_left false b h = h
-
-both_right : (a b : Bool) → (a && b) ≡ true → b ≡ true
-both_right true b h = h
-both_right false b h = let wrong : false ≡ true = h in absurd cc
-
 is_false : (a : Bool) → not a ≡ true → a ≡ false
 is_false true h = let wrong : false ≡ true = h in absurd cc
 is_false false h = refl
@@ -46,11 +39,11 @@ is_false false h = refl
 pub word_run : (word rest : List ℕ) → 0 < length word → list_all is_solid word ≡ true → Begins rest → words_of (word ++ rest) ≡ word ∷ words_of rest
 word_run [] rest some solid h = absurd (omega (arith, some))
 word_run (x ∷ []) rest some solid h =
-    words_of-solid x rest (is_false (is_space x) (both_left (is_solid x) true solid)) ∙ last_byte x rest (words_of rest) h
+    words_of-solid x rest (is_false (is_space x) (and_parts (is_solid x) true solid).0) ∙ last_byte x rest (words_of rest) h
 word_run (x ∷ y ∷ ys) rest some solid h =
-    let others : list_all is_solid (y ∷ ys) ≡ true = both_right (is_solid x) (list_all is_solid (y ∷ ys)) solid in
-    let here : is_space x ≡ false = is_false (is_space x) (both_left (is_solid x) (list_all is_solid (y ∷ ys)) solid) in
-    let next : is_space y ≡ false = is_false (is_space y) (both_left (is_solid y) (list_all is_solid ys) others) in
+    let others : list_all is_solid (y ∷ ys) ≡ true = (and_parts (is_solid x) (list_all is_solid (y ∷ ys)) solid).1 in
+    let here : is_space x ≡ false = is_false (is_space x) (and_parts (is_solid x) (list_all is_solid (y ∷ ys)) solid).0 in
+    let next : is_space y ≡ false = is_false (is_space y) (and_parts (is_solid y) (list_all is_solid ys) others).0 in
     words_of-solid x (y ∷ ys ++ rest) here
     ∙ ap (word_before x (y ∷ ys ++ rest)) (word_run (y ∷ ys) rest (omega arith) others h)
     ∙ ap (λ (b : Bool). cond b ((x ∷ []) ∷ (y ∷ ys) ∷ words_of rest) ((x ∷ y ∷ ys) ∷ words_of rest)) next

@@ -3,14 +3,9 @@ use Rattle.std.specs.Prelude.{◌==◌, ◌||◌, ◌&&◌, ◌<◌, ◌≤◌, 
 use Rattle.std.specs.List.{list_all, list_any}
 use Rattle.std.specs.Str.{bytes_eq}
 use Rattle.text_laws.specs.Canonical.{AreNames}
+use Rattle.poly_text.specs.declared.names.TheConstants.{MOST_NAMES, LONGEST_NAME}
 use Rattle.poly_text.specs.declared.names.NamesFault.{NamesFault}
 use Rattle.poly_text.specs.declared.names.NamesFault.TheVariants.{Count, BadName, Reserved, Repeated}
-
-abbrev pub most_names : ℕ
-most_names = 7
-
-abbrev pub longest_name : ℕ
-longest_name = 32
 
 abbrev pub is_digit : ℕ → Bool
 is_digit byte = nat_le 48 byte && nat_le byte 57
@@ -19,10 +14,10 @@ is_digit byte = nat_le 48 byte && nat_le byte 57
 abbrev pub is_letter : ℕ → Bool
 is_letter byte = (nat_le 65 byte && nat_le byte 90) || ((nat_le 97 byte && nat_le byte 122) || byte == 95)
 
--- a letter, and then letters and digits; 32 bytes at most
+-- a letter, and then letters and digits, of LONGEST_NAME bytes at most
 abbrev pub is_name : List ℕ → Bool
 is_name [] = false
-is_name (byte ∷ bytes) = is_letter byte && (list_all (λ b. is_letter b || is_digit b) bytes && nat_le (length (byte ∷ bytes)) longest_name)
+is_name (byte ∷ bytes) = is_letter byte && (list_all (λ b. is_letter b || is_digit b) bytes && nat_le (length (byte ∷ bytes)) LONGEST_NAME)
 
 abbrev pub is_among : List ℕ → List (List ℕ) → Bool
 is_among word words = list_any (λ w. bytes_eq w word) words
@@ -54,11 +49,11 @@ unless (Some fault) words = Err fault
 
 -- the words as names, or their first fault: that of their number before those of each word
 abbrev pub names_of : List (List ℕ) → Result (List (List ℕ)) NamesFault
-names_of words = if length words == 0 || not (nat_le (length words) most_names) then Err Count else unless (fault_behind [] words) words
+names_of words = if length words == 0 || not (nat_le (length words) MOST_NAMES) then Err Count else unless (fault_behind [] words) words
 
--- 1 to 7 names, no two of them alike, each of 32 bytes at most
+-- from one name to MOST_NAMES, no two of them alike, each of LONGEST_NAME bytes at most
 pub record IsNameList (words : List (List ℕ)) : Type 0 where
   pub names : AreNames words
   pub some : 0 < length words
-  pub few : length words ≤ most_names
-  pub short : All (λ name. length name ≤ longest_name) words
+  pub few : length words ≤ MOST_NAMES
+  pub short : All (λ name. length name ≤ LONGEST_NAME) words

@@ -9,7 +9,7 @@ use Rattle.text_laws.specs.Grammar.{Tree}
 use Rattle.text_laws.specs.Reading.{is_sign}
 use Rattle.text_laws.specs.Summands.{Summand, unknown_in, written_degree, size_of, vector_of, signed, summands, written_terms, verdict}
 use Rattle.text_laws.specs.declared.TextFault.{TextFault}
-use Rattle.text_laws.specs.declared.TextFault.TheVariants.{NoMemory}
+use Rattle.text_laws.specs.declared.TextFault.TheVariants.{DegreeBound, CoefficientBound, NoMemory}
 use Rattle.poly_text.specs.Tokens.{cap}
 use Rattle.poly_text.specs.declared.factors.UnknownName.{UnknownName}
 use Rattle.poly_text.specs.declared.terms.TermRead.{TermRead}
@@ -34,6 +34,13 @@ pub record IsTermRead {M E : Type 0} (vector : M → List ℕ) (value : E → �
 abbrev pub ReadsTerm : {M E : Type 0} → (M → List ℕ) → (E → ℤ) → List (List ℕ) → ℕ → ℕ → List ℕ → Summand → List ℕ → ℕ → Result (TermRead M E) UnknownName → Type 0
 ReadsTerm vector value names p lim bytes s rest total (Ok r) = IsTermRead vector value names p lim bytes s rest total r
 ReadsTerm vector value names p lim bytes s rest total (Err u) = unknown_in names s.powers ≡ Some u.at
+
+-- the terms, where no place has a fault, or the first fault: that of a degree comes before that of a coefficient
+abbrev pub IsWithin : {X : Type 0} → Option ℕ → Option ℕ → X → Result X TextFault → Type 0
+IsWithin degree_at coefficient_at v (Ok w) = (w ≡ v) × (degree_at ≡ None) × coefficient_at ≡ None
+IsWithin degree_at coefficient_at v (Err (DegreeBound at)) = degree_at ≡ Some at
+IsWithin degree_at coefficient_at v (Err (CoefficientBound at)) = (degree_at ≡ None) × coefficient_at ≡ Some at
+IsWithin degree_at coefficient_at v (Err _) = ⊥
 
 -- one term, or none
 abbrev pub pushed : {M E : Type 0} → Option M → Option E → List (TermOf M E)

@@ -3,20 +3,18 @@
 
 mod class;
 mod factors;
-pub mod names;
+mod names;
 mod print;
-pub mod read;
+mod read;
 mod syntax;
 mod term;
 mod terms;
 mod tokens;
-pub mod words;
-pub mod write;
+mod words;
+mod write;
 
-pub use names::{Names, NamesFault};
+pub use names::{LONGEST_NAME, MOST_NAMES, Names, NamesFault, is_name, is_reserved, stands_in};
 pub use read::read_poly;
+pub use text_laws::TextFault;
 pub use words::split_word;
 pub use write::write_poly;
-
-#[cfg(test)]
-mod tests;

@@ -3,22 +3,25 @@ ghost use Rattle.std.specs.Prelude.{◌≡◌, ◌≢◌, ◌<◌, ◌≤◌, �
 ghost use Rattle.std.specs.List.{list_all, list_any};
 ghost use Rattle.std.specs.Str.{bytes_eq};
 ghost use Rattle.poly_text.specs.Words.{words_of};
-ghost use Rattle.poly_text.specs.Names.{IsNameList, names_of, word_fault, most_names, is_name as is_name_word, is_reserved as is_reserved_word, is_among, is_letter as is_letter_byte, is_digit};
+ghost use Rattle.poly_text.specs.Names.{IsNameList, names_of, word_fault, is_name as is_name_word, is_reserved as is_reserved_word, is_among, is_letter as is_letter_byte, is_digit};
 
 use crate::words::split_word;
+use packed_monomial::LAYOUTS;
 use std::alloc::{AllocError, Global};
 use std::marker::Model;
 
-const MOST_NAMES: usize = 7;
+/// The most names: as many as the widest packed monomial has variables.
+pub const MOST_NAMES: usize = LAYOUTS.len();
 
-const LONGEST_NAME: usize = 32;
+/// The most bytes of a name.
+pub const LONGEST_NAME: usize = 32;
 
 /// Why a list of words is no list of names; `index` counts the words from 0. The number of the words comes first, and then the first word with a fault.
 #[derive(Clone, Copy, PartialEq, Eq, Debug, Drop)]
 pub enum NamesFault {
-    /// There is no word, or there are more than 7.
+    /// There is no word, or there are more than `MOST_NAMES`.
     Count,
-    /// The word isn't a letter or `_`, followed by letters, digits and `_`, or it has more than 32 bytes.
+    /// The word isn't a letter or `_`, followed by letters, digits and `_`, or it has more than `LONGEST_NAME` bytes.
     BadName { index: u32 },
     /// The word stands for something else in a session.
     Reserved { index: u32 },
@@ -28,7 +31,7 @@ pub enum NamesFault {
     NoMemory,
 }
 
-/// The names of 1 to 7 variables, no two of them alike, the greatest variable first.
+/// The names of 1 to `MOST_NAMES` variables, no two of them alike, the greatest variable first.
 ///
 /// Contracts see the list of the names, each as its bytes.
 #[derive(Drop)]
@@ -107,7 +110,7 @@ fn count_words(words: &[u8]) -> usize
 
 /// Puts the word behind the names.
 fn add_name(alloc: Global, word: &[u8], names: &mut Vec<String>) -> Result<(), NamesFault>
-    requires { length names.old.items < most_names }
+    requires { length names.old.items < MOST_NAMES }
     ensures added { OnOk
         result
         ((map string_bytes names.new.items ≡ map string_bytes names.old.items ++ word.now ∷ [])
@@ -129,7 +132,7 @@ fn add_name(alloc: Global, word: &[u8], names: &mut Vec<String>) -> Result<(), N
 /// The word as a name behind these ones.
 #[tactic(auto, unfolding(crate::specs::Names::word_fault))]
 fn check_name<'a>(word: &'a [u8], earlier: &[String]) -> Result<&'a str, NamesFault>
-    requires { length earlier.now < most_names }
+    requires { length earlier.now < MOST_NAMES }
     ensures { MatchResult
         result
         (λ name. (name.now ≡ word.entry.now) × word_fault (map string_bytes earlier.now) word.entry.now ≡ None)
@@ -220,27 +223,4 @@ fn any_is(word: &[u8], names: &[String]) -> bool
     ensures { result ≡ list_any (λ name. bytes_eq (string_bytes name) word.now) names.now }
 {
     names.iter().any(|name| name.as_bytes() == word)
-}
-
-#[cfg(test)]
-mod tests {
-    use super::*;
-    use std::test::Fail;
-
-    #[test]
-    fn reads_names(rt: HostRuntime) -> Result<(), Fail> {
-        let names = Names::new(rt.alloc(), b" x\ty_1  Z")?;
-        assert_eq!(rt; names.len(), 3);
-        assert_eq!(rt; names.word(1), "y_1");
-        assert_eq!(rt; names.words().len(), 3);
-        Ok(())
-    }
-
-    #[test]
-    fn refuses_words(rt: HostRuntime) {
-        let repeated = Names::new(rt.alloc(), b"x x");
-        assert!(rt; matches!(repeated, Err(NamesFault::Repeated { index: 1 })));
-        let none = Names::new(rt.alloc(), b"");
-        assert!(rt; matches!(none, Err(NamesFault::Count)));
-    }
 }

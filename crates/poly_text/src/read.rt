@@ -5,7 +5,7 @@ ghost use Rattle.text_laws.specs.Reading.{reading};
 use crate::names::Names;
 use crate::syntax::syntax_fault;
 use crate::terms::read_terms;
-use canonical_terms::Poly;
+use canonical_terms::{Poly, PolyFault};
 use coeff_ring::CoeffRing;
 use packed_monomial::Monomial;
 use std::alloc::Global;
@@ -29,6 +29,7 @@ pub fn read_poly<R: CoeffRing, M: Monomial>(
     let terms = read_terms::<R, M>(alloc, ring, names, bytes)?;
     match Poly::from_terms(alloc, ring, terms) {
         Ok(poly) => Ok(poly),
-        Err(_) => Err(TextFault::NoMemory),
+        Err(PolyFault::CoefficientBound) => unreachable!(),
+        Err(PolyFault::NoMemory) => Err(TextFault::NoMemory),
     }
 }

@@ -8,7 +8,7 @@ ghost use Rattle.text_laws.specs.Grammar.{Tree, Product, Spells, IsProduct, spel
 ghost use Rattle.text_laws.specs.Summands.{signed, or_else, product_at};
 ghost use Rattle.text_laws.specs.Reading.{is_blank};
 ghost use Rattle.poly_text.specs.Tokens.{after, sign_front, cap};
-ghost use Rattle.poly_text.specs.ReadsTerms.{weight, minus_front, ReadsTerm, ReadsTree, pushed};
+ghost use Rattle.poly_text.specs.ReadsTerms.{weight, minus_front, ReadsTerm, ReadsTree, IsWithin, pushed};
 
 use crate::class::class_of_byte;
 use crate::factors::UnknownName;
@@ -17,7 +17,7 @@ use crate::term::read_product;
 use crate::tokens::skip_blanks;
 use canonical_terms::{Term, TermOf};
 use coeff_ring::CoeffRing;
-use packed_monomial::Monomial;
+use packed_monomial::{MOST_VARIABLES, Monomial};
 use std::alloc::Global;
 use text_laws::{ByteClass, TextFault};
 
@@ -116,7 +116,7 @@ fn read_term<R: CoeffRing, M: Monomial>(
     ensures reads { (t : Product) (rest : List ℕ) (total : ℕ) → IsProduct t → EndsTerm rest → drop start.at bytes.now ≡ spell_product t ++ rest → sum ≡ min total cap
         → ReadsTerm M.vector R.value names.now (R.characteristic ring) M.LIM bytes.now (product_at start.negative start.at t) rest total result }
 {
-    let mut exponents = [0u32; 7];
+    let mut exponents = [0u32; MOST_VARIABLES];
     let vector = &mut exponents[..names.len()];
     let read = read_product(names, bytes, start.at, vector)?;
     let sum = sum.saturating_add(read.size);
@@ -158,6 +158,23 @@ fn push_term<M: Copy, E: Copy>(
     Ok(())
 }
 
+/// The terms, where no place has a fault: that of a degree comes before that of a coefficient.
+fn within_bounds<M: Copy, E: Copy>(
+    terms: Vec<TermOf<M, E>>,
+    degree_at: Option<u64>,
+    coefficient_at: Option<u64>,
+) -> Result<Vec<TermOf<M, E>>, TextFault>
+    ensures { IsWithin degree_at coefficient_at terms result }
+{
+    if let Some(at) = degree_at {
+        return Err(TextFault::DegreeBound { at });
+    }
+    if let Some(at) = coefficient_at {
+        return Err(TextFault::CoefficientBound { at });
+    }
+    Ok(terms)
+}
+
 /// Reads the terms of a text that is in the grammar, in the order of the text, or finds their first fault.
 #[inline(never)]
 pub fn read_terms<R: CoeffRing, M: Monomial>(
@@ -192,11 +209,5 @@ pub fn read_terms<R: CoeffRing, M: Monomial>(
         }
         start = behind_sign(bytes, term.next);
     }
-    if let Some(at) = degree_at {
-        return Err(TextFault::DegreeBound { at });
-    }
-    if let Some(at) = coefficient_at {
-        return Err(TextFault::CoefficientBound { at });
-    }
-    Ok(terms)
+    within_bounds(terms, degree_at, coefficient_at)
 }

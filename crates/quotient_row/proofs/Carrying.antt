@@ -6,7 +6,7 @@ use Rattle.sdmp_laws.specs.Poly.{Term as PlainTerm}
 use Rattle.sdmp_laws.specs.Division.{Division}
 use Rattle.sdmp_laws.specs.LongDivision.{quotient_list}
 use Rattle.sdmp_laws.specs.Limits.{PassesBound}
-use Rattle.whole_laws.specs.Row.{RowNote, RowTerm, RowFront, RowCarry, RowCarryAfter, RowMayFollow, row_terms, known_after}
+use Rattle.divide_wholes.specs.Row.{RowNote, RowTerm, RowFront, RowCarry, RowCarryAfter, RowMayFollow, row_terms, known_after}
 use Rattle.quotient_row.specs.declared.note.RowNoteOf.{RowNoteOf}
 use Rattle.quotient_row.specs.Names.{RowName}
 use Rattle.quotient_row.specs.Spelling.{note_of, notes_of}

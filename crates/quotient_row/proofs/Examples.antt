@@ -2,7 +2,7 @@
 use Rattle.std.proofs.Common.{◌≡◌, ℕ, zero, suc, ◌+◌, ◌*◌, ◌<◌, ◌≤◌, ℤ, pos, negsuc, List, [], ◌∷◌, ◌++◌, Option, Some, None, inl, inr, length, refl, sym, ap, ◌∙◌, subst, arith}
 use Rattle.std.proofs.lemmas.List.{map-append}
 use mathlib.Core.List.{IsPrefix}
-use Rattle.sdmp_laws.specs.Order.{Grlex, ◌⋅◌, degree, Below, alike, over, divides, is_below, tie_below, lex_below}
+use Rattle.sdmp_laws.specs.Order.{Grlex, ◌⋅◌, degree, Below, alike, over, divides, is_below, tie_below, lex_below, IsUnder}
 use Rattle.sdmp_laws.specs.Poly.{Term as PlainTerm, norm, Over, terms, minus, negated, term_neg, row, term_times, put, keep, is_zero, term_plus, lm, lc}
 use Rattle.sdmp_laws.specs.Division.{IsAccepted, AtOrAbove}
 use Rattle.sdmp_laws.specs.LongDivision.{quotient_list, turns_at, turns_bound, turn_at, turn_on, first_in_scope, factor, listed}
@@ -10,9 +10,9 @@ use Rattle.sdmp_laws.specs.Limits.{PassesBound, greatest_norm}
 use Rattle.sdmp_laws.proofs.TermsLemmas.{terms_poly}
 use Rattle.canonical_terms.specs.View.{term_of}
 use Rattle.canonical_terms.specs.declared.term.TermOf.{TermOf}
-use Rattle.whole_laws.specs.Wholes.{AllUnderFront}
-use Rattle.whole_laws.specs.Row.{RowNote, RowTerm, RowFront, RowCarry, RowCarryAfter, RowMayFollow, IsUnder, front_after, known_after, row_terms}
-use Rattle.whole_laws.proofs.RowLemmas.{row_laws}
+use Rattle.divide_wholes.specs.Wholes.{AllUnderFront}
+use Rattle.divide_wholes.specs.Row.{RowNote, RowTerm, RowFront, RowCarry, RowCarryAfter, RowMayFollow, front_after, known_after, row_terms}
+use Rattle.divide_wholes.proofs.RowLemmas.{row_laws}
 use Rattle.quotient_row.specs.declared.note.RowNoteOf.{RowNoteOf}
 use Rattle.quotient_row.specs.declared.note.RowNoteOf.TheVariants.{Term, Front}
 use Rattle.quotient_row.specs.Examples.{square_less_one}

@@ -1,6 +1,6 @@
-pub mod Between
 pub mod Carrying
+pub mod EachMoment
 pub mod Examples
-pub mod Keeps
+pub mod RuleStays
 pub mod Shares
 pub mod Spelled

@@ -2,7 +2,7 @@
 use Rattle.std.specs.Prelude.{◌≡◌, ℕ, List, []}
 use Rattle.atomic_table.specs.Seated.{TableId}
 use Rattle.quotient_row.specs.declared.note.RowNoteOf.{RowNoteOf}
-use Rattle.quotient_row.specs.declared.view.Kind.TheVariants.{Publishing, Looking}
+use Rattle.quotient_row.specs.declared.kind.Kind.TheVariants.{Publishing, Looking}
 use Rattle.quotient_row.specs.declared.row.Row.{Row}
 use Rattle.quotient_row.specs.declared.row.RowWriter.{RowWriter}
 use Rattle.quotient_row.specs.declared.row.RowReader.{RowReader}
@@ -41,7 +41,7 @@ module _ {X Y Z : Type 0} where
 
   -- how often it loaded the count
   abbrev pub count_loads : RowReader X Y Z → ℕ
-  count_loads r = r.end.seat.me.0.loads
+  count_loads r = r.end.seat.me.0.looks
 
   -- what the writer had published when the two last met
   abbrev pub told_published : RowReader X Y Z → List (RowNoteOf Y Z)

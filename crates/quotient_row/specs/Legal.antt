@@ -4,7 +4,7 @@ use mathlib.Core.List.{IsPrefix}
 use Rattle.sdmp_laws.specs.Division.{Division}
 use Rattle.sdmp_laws.specs.LongDivision.{quotient_list}
 use Rattle.sdmp_laws.specs.Limits.{PassesBound}
-use Rattle.whole_laws.specs.Row.{RowNote, RowCarry, row_terms, known_after}
+use Rattle.divide_wholes.specs.Row.{RowNote, RowCarry, row_terms, known_after}
 use Rattle.quotient_row.specs.declared.note.RowNoteOf.{RowNoteOf}
 use Rattle.quotient_row.specs.Names.{RowName}
 use Rattle.quotient_row.specs.Spelling.{Belongs, notes_of}

@@ -4,13 +4,14 @@ use mathlib.Core.List.{IsPrefix}
 use mathlib.Core.Option.{some}
 use lib.ListN.{get_elem?}
 use Rattle.atomic_table.specs.Table.{State}
-use Rattle.quotient_row.specs.declared.view.View.{View}
-use Rattle.quotient_row.specs.declared.view.Kind.TheVariants.{Publishing, Looking, Copied}
+use Rattle.term_ring.specs.declared.view.View.{View}
+use Rattle.quotient_row.specs.declared.kind.Kind.{Kind}
+use Rattle.quotient_row.specs.declared.kind.Kind.TheVariants.{Publishing, Looking, Copied}
 use Rattle.quotient_row.specs.Rule.{place, IsRow}
 
-module _ {N C : Type 0} (words : N → List ℕ) (legal : C → List N → Type 0) (name : C) (places : ℕ) (s : State (Unit {0}) (View N C)) where
+module _ {N C : Type 0} (words : N → List ℕ) (legal : C → List N → Type 0) (name : C) (places : ℕ) (s : State (Unit {0}) (View Kind N C)) where
   -- of the words, of the writer's view w and of the view r of any reader
-  pub record Moment (w r : View N C) : Type 0 where
+  pub record Moment (w r : View Kind N C) : Type 0 where
     pub lawful : legal name w.notes
     pub room : length w.notes ≤ places
     pub count : slice_index s.words 0 ≡ length w.notes
@@ -27,11 +28,11 @@ module _ {N C : Type 0} (words : N → List ℕ) (legal : C → List N → Type 
     -- what an end was told of, and each copy, is a beginning
     pub told_reader : IsPrefix r.told w.notes
     pub told_writer : IsPrefix w.told w.notes
-    pub copies : (j : ℕ) (v : View N C) → get_elem? s.views j ≡ some v → v.kind ≡ Copied → IsPrefix v.notes w.notes
+    pub copies : (j : ℕ) (v : View Kind N C) → get_elem? s.views j ≡ some v → v.kind ≡ Copied → IsPrefix v.notes w.notes
 
 -- each state that the rule allows is such a moment
 abbrev pub AtEachMoment : {N C : Type 0} → (N → List ℕ) → (C → N → Type 0) → (C → List N → Type 0) → Type 0
 AtEachMoment {N = N} {C = C} words fits legal =
-    (name : C) (places : ℕ) (s : State (Unit {0}) (View N C)) → IsRow words fits legal name places s →
-    (i j : ℕ) (w r : View N C) → get_elem? s.views i ≡ some w → w.kind ≡ Publishing → get_elem? s.views j ≡ some r → r.kind ≡ Looking →
+    (name : C) (places : ℕ) (s : State (Unit {0}) (View Kind N C)) → IsRow words fits legal name places s →
+    (i j : ℕ) (w r : View Kind N C) → get_elem? s.views i ≡ some w → w.kind ≡ Publishing → get_elem? s.views j ≡ some r → r.kind ≡ Looking →
     Moment words legal name places s w r

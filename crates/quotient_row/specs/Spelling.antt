@@ -1,7 +1,7 @@
 -- Notes of a row as words, and as plain data.
 use Rattle.std.specs.Prelude.{ℕ, ℤ, List, [], ◌∷◌, ◌++◌, map}
 use Rattle.canonical_terms.specs.View.{term_of}
-use Rattle.whole_laws.specs.Row.{RowNote, RowTerm, RowFront}
+use Rattle.divide_wholes.specs.Row.{RowNote, RowTerm, RowFront}
 use Rattle.quotient_row.specs.declared.note.RowNoteOf.{RowNoteOf}
 use Rattle.quotient_row.specs.declared.note.RowNoteOf.TheVariants.{Term, Front}
 

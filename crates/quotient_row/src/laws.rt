@@ -11,7 +11,7 @@ pub fn row_at_each_moment<R: CoeffRing, M: Monomial>()
     ensures { AtEachMoment (words_of M.words R.words) (Fits R.belongs) (Legal M.vector R.value) }
 {}
 
-/// The terms among legal notes are the next quotient terms, none of them past the bound. That no later term is above the front is a law of `whole_laws`.
+/// The terms among legal notes are the next quotient terms, none of them past the bound. That no later term is above the front is a law of `divide_wholes`.
 pub fn row_terms_are_next()
     ensures { TermsAreNext }
 {}

@@ -3,13 +3,15 @@
 //! The shared object is a table of words. Word 0 is the number of notes published, and the note with number `i` stands in the five words from `1 + 5 * i`. Only the writer stores words, and no place is written twice. No call waits.
 #![tactic(auto)]
 
-mod calls;
+mod kind;
 mod laws;
 mod make;
+mod name;
 mod note;
-mod plays;
+mod reader;
 mod row;
-mod view;
+mod steps;
+mod writer;
 
 pub use laws::{row_at_each_moment, row_terms_are_next};
 pub use note::{RowNote, RowNoteOf};

@@ -4,8 +4,9 @@ ghost use Rattle.quotient_row.specs.Names.{row_name};
 ghost use Rattle.quotient_row.specs.Steps.{first};
 ghost use Rattle.quotient_row.specs.Ends.{IsWriterOf, IsReaderOf, IsNew, name_of, places_of, published};
 
-use crate::plays::{Key, Name, NewReader, RowView};
+use crate::name::Name;
 use crate::row::{End, Row, RowReader, RowWriter};
+use crate::steps::{Key, NewReader, RowView};
 use atomic_table::{Seat, Table};
 use canonical_terms::Poly;
 use coeff_ring::CoeffRing;

@@ -17,14 +17,14 @@ pub enum RowNoteOf<M, E> {
 pub type RowNote<R, M> = RowNoteOf<M, <R as CoeffRing>::E>;
 
 // the five words: the kind, the monomial and the coefficient
-pub(crate) fn to_words<R: CoeffRing, M: Monomial>(ring: &R, note: RowNote<R, M>) -> [u64; 5]
-    requires { Belongs (R.belongs (R.characteristic ring.now)) note }
+pub(crate) fn to_words<R: CoeffRing, M: Monomial>(coefficients: &R, note: RowNote<R, M>) -> [u64; 5]
+    requires { Belongs (R.belongs (R.characteristic coefficients.now)) note }
     ensures { result ≡ words_of M.words R.words note }
 {
     match note {
         RowNoteOf::Term(t) => {
             let m = t.mono.to_words();
-            let c = ring.to_words(t.coef);
+            let c = coefficients.to_words(t.coef);
             [1, m[0], m[1], c[0], c[1]]
         }
         RowNoteOf::Front(front) => {
@@ -35,13 +35,16 @@ pub(crate) fn to_words<R: CoeffRing, M: Monomial>(ring: &R, note: RowNote<R, M>)
 }
 
 // the note that the words spell, where they spell one
-pub(crate) fn from_words<R: CoeffRing, M: Monomial>(ring: &R, bits: &[u64; 5]) -> RowNote<R, M>
-    requires { (x : _) × Belongs (R.belongs (R.characteristic ring.now)) x × (bits.now ≡ words_of M.words R.words x) }
-    ensures { (x : _) → Belongs (R.belongs (R.characteristic ring.entry.now)) x → bits.entry.now ≡ words_of M.words R.words x → result ≡ x }
+pub(crate) fn from_words<R: CoeffRing, M: Monomial>(
+    coefficients: &R,
+    bits: &[u64; 5],
+) -> RowNote<R, M>
+    requires { (x : _) × Belongs (R.belongs (R.characteristic coefficients.now)) x × (bits.now ≡ words_of M.words R.words x) }
+    ensures { (x : _) → Belongs (R.belongs (R.characteristic coefficients.entry.now)) x → bits.entry.now ≡ words_of M.words R.words x → result ≡ x }
 {
     let mono = M::from_words([bits[1], bits[2]]).unwrap();
     if bits[0] == 1 {
-        let coef = ring.from_words([bits[3], bits[4]]).unwrap();
+        let coef = coefficients.from_words([bits[3], bits[4]]).unwrap();
         RowNoteOf::Term(TermOf { mono, coef })
     } else {
         RowNoteOf::Front(mono)

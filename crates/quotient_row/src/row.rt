@@ -1,15 +1,16 @@
 //! A row and its ends.
 ghost use Rattle.std.specs.Prelude.{◌≡◌, ◌+◌, ◌*◌, ◌^◌, ◌<◌, ◌≤◌, [], length, Some};
 
+use crate::kind::Kind;
+use crate::name::Name;
 use crate::note::RowNote;
-use crate::plays::{Key, Name, RowRule, RowView};
-use crate::view::View;
+use crate::steps::{Key, RowRule, RowView};
 use atomic_table::{Seat, Table};
 use coeff_ring::CoeffRing;
 use packed_monomial::Monomial;
 use std::alloc::Global;
 use std::snapshot::Snapshot;
-use term_ring::Scalars;
+use term_ring::{Scalars, View};
 
 /// As many notes are published as there are places.
 #[derive(Debug, Drop, Clone, Copy, PartialEq, Eq)]
@@ -31,12 +32,12 @@ pub struct Row<R: CoeffRing, M: Monomial> {
 /// What an end keeps: its seat at the table, the row's name, and the number of its next note.
 #[derive(Drop)]
 pub struct End<N, C> {
-    pub(crate) seat: Seat<(), View<N, C>>,
+    pub(crate) seat: Seat<(), View<Kind, N, C>>,
     pub(crate) name: Snapshot<C>,
     pub(crate) places: u64,
     pub(crate) number: u64,
     ghost held: { seat.me.1 ≡ [] },
-    ghost named: { (seat.me.0.name ≡ Some name.value) × (seat.me.0.places ≡ places) × (places < 2 ^ 32) },
+    ghost named: { (seat.me.0.subject ≡ Some name.value) × (seat.me.0.places ≡ places) × (places < 2 ^ 32) },
     ghost counted: { (length seat.me.0.notes ≡ number) × (number ≤ places) },
     ghost between: { seat.me.0.words ≡ [] },
 }

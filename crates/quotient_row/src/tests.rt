@@ -1,7 +1,7 @@
 ghost use Rattle.std.specs.Prelude.{◌≡◌, ◌≤◌, [], length, take, All, IfOk, unsigned_abs};
 ghost use Rattle.sdmp_laws.specs.Limits.{greatest_norm};
 ghost use Rattle.packed_monomial.specs.Packing.{vector_of};
-ghost use Rattle.whole_laws.specs.Row.{RowCarry};
+ghost use Rattle.divide_wholes.specs.Row.{RowCarry};
 ghost use Rattle.quotient_row.specs.Spelling.{Belongs, notes_of};
 ghost use Rattle.quotient_row.specs.Legal.{Fits, Legal};
 ghost use Rattle.quotient_row.specs.Ends.{IsWriterOf, IsReaderOf, IsNew, name_of, published};

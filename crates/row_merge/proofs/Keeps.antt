@@ -8,19 +8,20 @@ use Rattle.sdmp_laws.specs.Order.{Order, degree}
 use Rattle.sdmp_laws.specs.Poly.{Term, term_times, row, norm, Over, AllBelow, Decreasing, AllDegrees, IsPoly, lm, every}
 use Rattle.sdmp_laws.specs.Limits.{greatest_norm}
 use Rattle.sdmp_laws.specs.Canonical.{IsCanonical}
-use Rattle.sdmp_laws.proofs.Parts.{norm_append, norm_cons, norm_nil}
-use Rattle.sdmp_laws.proofs.DegreeLemmas.{degree_laws}
+use Rattle.sdmp_laws.proofs.Parts.{norm_append, norm_cons, norm_nil, norm_row}
+use Rattle.sdmp_laws.proofs.DegreeLemmas.{degrees_poly}
 use Rattle.canonical_terms.specs.declared.term.TermOf.{TermOf}
 use Rattle.canonical_terms.specs.View.{term_of, sum_of}
 use Rattle.sdmp_laws.proofs.Merging.{Over-push}
 use Rattle.chained_heap.specs.declared.node.Place.{Place}
 use Rattle.chained_heap.specs.declared.node.Place.TheVariants.{Out}
 use Rattle.chained_heap.specs.Shape.{place_at}
-use Rattle.row_merge.specs.Learned.{left_to_read, product_at, AreRows, IsMoved, TakesOut, AreLearned}
+use Rattle.row_merge.specs.Learned.{unread, product_at, AreRows, IsMoved, TakesOut, AreLearned}
 use Rattle.row_merge.proofs.Products.{learn_one}
 use Rattle.row_merge.proofs.Places.{read_low}
 use Rattle.row_merge.proofs.Moves.{rows_learned}
 use Rattle.row_merge.proofs.Popped.{moved_same, waits_out}
+use Rattle.sdmp_laws.proofs.ListLemmas.{Over-every, Decreasing-every, AllDegrees-every, norm-every-le}
 
 -- ---- degrees
 pub lead_degree : (D : ℕ) (L : List Term) → AllDegrees D L → degree (lm L) ≤ D
@@ -44,40 +45,27 @@ module _ {M E : Type 0} (vector : M → List ℕ) (value : E → ℤ) (ord : Ord
       omega (arith, h, e)
 
 -- ---- norms
-spread_left : (a b c : ℕ) → a * (b + c) ≡ a * b + a * c
-spread_left a b c = omega arith
-
 turn : (a b c : ℕ) → a * (b + c) ≡ b * a + a * c
 turn a b c = omega arith
-
-times_zero : (a b : ℕ) → b ≡ 0 → a * b ≡ 0
-times_zero a zero e = omega arith
-times_zero a (suc b) e = absurd (omega (arith, e))
 
 zero_times : (a b : ℕ) → a ≡ 0 → a * b ≡ 0
 zero_times zero b e = omega arith
 zero_times (suc a) b e = absurd (omega (arith, e))
 
-row_norm : (s : Term) (B : List Term) → norm (row s B) ≡ unsigned_abs s.coefficient * norm B
-unfolding row term_times
-row_norm s [] = norm_nil ∙ sym (times_zero (unsigned_abs s.coefficient) (norm []) norm_nil)
-row_norm s (t ∷ B) =
-    norm_cons (term_times s t) (row s B) ∙ (λ i. unsigned_abs-mul s.coefficient t.coefficient i + row_norm s B i)
-    ∙ sym (ap (λ (k : ℕ). unsigned_abs s.coefficient * k) (norm_cons t B) ∙ spread_left (unsigned_abs s.coefficient) (unsigned_abs t.coefficient) (norm B))
-
 drop_norm : (r : ℕ) (L : List Term) → norm (drop r L) ≤ norm L
 drop_norm r L = omega (arith, norm_append (take r L) (drop r L), ap norm (take-append-drop r L))
 
-pub left_norm : (L : List Term) (reads : List ℕ) (rows : List Term) → norm (left_to_read L reads rows) ≤ norm L * norm rows
-unfolding left_to_read
-left_norm L [] rows = omega (arith, norm_nil)
+pub left_norm : (L : List Term) (reads : List ℕ) (rows : List Term) → norm (unread rows reads L) ≤ norm L * norm rows
+unfolding unread
+left_norm L [] [] = omega (arith, norm_nil)
+left_norm L [] (s ∷ rows) = omega (arith, norm_nil)
 left_norm L (r ∷ reads) [] = omega (arith, norm_nil)
 left_norm L (r ∷ reads) (s ∷ rows) =
     let a : unsigned_abs s.coefficient * norm (drop r L) ≤ unsigned_abs s.coefficient * norm L = mul-le-mul_left (unsigned_abs s.coefficient) (drop_norm r L) in
     let b : norm L * norm (s ∷ rows) ≡ unsigned_abs s.coefficient * norm L + norm L * norm rows = ap (λ (k : ℕ). norm L * k) (norm_cons s rows) ∙ turn (norm L) (unsigned_abs s.coefficient) (norm rows) in
-    omega (arith, norm_append (row s (drop r L)) (left_to_read L reads rows), row_norm s (drop r L), left_norm L reads rows, a, b)
+    omega (arith, norm_append (row s (drop r L)) (unread rows reads L), norm_row s (drop r L), left_norm L reads rows, a, b)
 
-pub left_fits : (ord : Order) (p n lim : ℕ) (divisor rows L : List Term) (reads : List ℕ) → AreLearned ord p n lim divisor rows L → p ≡ 0 → norm (left_to_read L reads rows) ≤ greatest_norm
+pub left_fits : (ord : Order) (p n lim : ℕ) (divisor rows L : List Term) (reads : List ℕ) → AreLearned ord p n lim divisor rows L → p ≡ 0 → norm (unread rows reads L) ≤ greatest_norm
 left_fits ord p n lim divisor rows L reads k z = omega (arith, left_norm L reads rows, mul-le-mul_left (norm L) k.rows_norm, k.fits z)
 
 -- ---- the rows of a worker
@@ -97,67 +85,19 @@ every_push W w i (s ∷ A) t = pick (eqb (i % W) w) refl (every_push W w (suc i)
     pick false e ih = ih ∙ ap (λ (l : List Term). every W w (suc i) A ++ l) same
 
 -- the part of a canonical list keeps what the rows keep
-every_below : (ord : Order) (m : List ℕ) (W w i : ℕ) (A : List Term) → AllBelow ord m A → AllBelow ord m (every W w i A)
-unfolding every AllBelow
-every_below ord m W w i [] h = tt
-every_below ord m W w i (t ∷ A) h = pick (eqb (i % W) w) (every_below ord m W w (suc i) A h.1)
-  where
-    pick : (b : Bool) → AllBelow ord m (every W w (suc i) A) → AllBelow ord m (cond b (t ∷ every W w (suc i) A) (every W w (suc i) A))
-    pick true r = (h.0, r)
-    pick false r = r
-
-every_falls : (ord : Order) (W w i : ℕ) (A : List Term) → Decreasing ord A → Decreasing ord (every W w i A)
-unfolding every Decreasing
-every_falls ord W w i [] h = tt
-every_falls ord W w i (t ∷ A) h = pick (eqb (i % W) w) (every_falls ord W w (suc i) A h.1)
-  where
-    pick : (b : Bool) → Decreasing ord (every W w (suc i) A) → Decreasing ord (cond b (t ∷ every W w (suc i) A) (every W w (suc i) A))
-    pick true r = (every_below ord t.monomial W w (suc i) A h.0, r)
-    pick false r = r
-
-every_over : (n W w i : ℕ) (A : List Term) → Over n A → Over n (every W w i A)
-unfolding every Over
-every_over n W w i [] h = tt
-every_over n W w i (t ∷ A) h = pick (eqb (i % W) w) (every_over n W w (suc i) A h.1)
-  where
-    pick : (b : Bool) → Over n (every W w (suc i) A) → Over n (cond b (t ∷ every W w (suc i) A) (every W w (suc i) A))
-    pick true r = (h.0, r)
-    pick false r = r
-
-every_degrees : (D W w i : ℕ) (A : List Term) → AllDegrees D A → AllDegrees D (every W w i A)
-unfolding every AllDegrees
-every_degrees D W w i [] h = tt
-every_degrees D W w i (t ∷ A) h = pick (eqb (i % W) w) (every_degrees D W w (suc i) A h.1)
-  where
-    pick : (b : Bool) → AllDegrees D (every W w (suc i) A) → AllDegrees D (cond b (t ∷ every W w (suc i) A) (every W w (suc i) A))
-    pick true r = (h.0, r)
-    pick false r = r
-
-every_norm : (W w i : ℕ) (A : List Term) → norm (every W w i A) ≤ norm A
-unfolding every
-every_norm W w i [] = omega arith
-every_norm W w i (t ∷ A) = pick (eqb (i % W) w) (every_norm W w (suc i) A)
-  where
-    pick : (b : Bool) → norm (every W w (suc i) A) ≤ norm A → norm (cond b (t ∷ every W w (suc i) A) (every W w (suc i) A)) ≤ norm (t ∷ A)
-    pick true r = omega (arith, r, norm_cons t A, norm_cons t (every W w (suc i) A))
-    pick false r = omega (arith, r, norm_cons t A)
-
 drop_degrees : (D : ℕ) (g : List Term) → AllDegrees D g → AllDegrees D (drop 1 g)
 unfolding AllDegrees
 drop_degrees D [] h = h
 drop_degrees D (t ∷ g) h = h.1
 
-lead_greatest : (ord : Order) (p n : ℕ) (g : List Term) → IsPoly ord p n g → AllDegrees (degree (lm g)) g
-lead_greatest ord p n g i = (degree_laws ord p n).0 g i
-
 pub start_kept : (ord : Order) (p n lim W w : ℕ) (g : List Term) → IsCanonical ord p n lim g → AreLearned ord p n lim g (every W w 1 (drop 1 g)) []
 unfolding Over Decreasing AllDegrees
 start_kept ord p n lim W w g c = record {
   divisor_is = c;
-  rows_vectors = every_over n W w 1 (drop 1 g) (tail_over g c.poly.vectors);
-  rows_fall = every_falls ord W w 1 (drop 1 g) (tail_falls g c.poly.decreasing);
-  rows_degrees = every_degrees (degree (lm g)) W w 1 (drop 1 g) (tail_degrees g c.poly);
-  rows_norm = omega (arith, every_norm W w 1 (drop 1 g), tail_norm g);
+  rows_vectors = Over-every n W w 1 (drop 1 g) (tail_over g c.poly.vectors);
+  rows_fall = Decreasing-every ord W w 1 (drop 1 g) (tail_falls g c.poly.decreasing);
+  rows_degrees = AllDegrees-every (degree (lm g)) W w 1 (drop 1 g) (tail_degrees g c.poly);
+  rows_norm = omega (arith, norm-every-le W w 1 (drop 1 g), tail_norm g);
   vectors = tt;
   fall = tt;
   degrees = All-nil _;
@@ -177,7 +117,7 @@ start_kept ord p n lim W w g c = record {
     tail_norm (t ∷ g) = omega (arith, norm_cons t g)
 
     tail_degrees : (g : List Term) → IsPoly ord p n g → AllDegrees (degree (lm g)) (drop 1 g)
-    tail_degrees g i = drop_degrees (degree (lm g)) g (lead_greatest ord p n g i)
+    tail_degrees g i = drop_degrees (degree (lm g)) g (degrees_poly ord p n g i)
 
 -- ---- one more row
 pub rows_more : (W w place : ℕ) (A rest rows rows' : List Term) (t : Term) → 1 ≤ place → length A ≡ place → rows ≡ every W w 1 (drop 1 A) → rows' ≡ rows ++ cond (eqb (place % W) w) (t ∷ []) [] → rows' ≡ every W w 1 (drop 1 (A ++ t ∷ []))
@@ -227,7 +167,7 @@ module _ {M : Type 0} (vector : M → List ℕ) (ord : Order) (L rows : List Ter
       (λ o. let q = f o in (omega (arith, q.0, a.reads_count), q.1 ∙ k)) (λ q. f' (omega (arith, q.0, a.reads_count), q.1 ∙ sym k))
       (subst (λ (j : ℕ). IsMoved vector 0 (product_at rows (L ++ t ∷ []) 0 j) opens places new) k mo))
 
-  pub learn_left : (t : Term) → AreRows vector ord None L rows reads places → IsPermutation (left_to_read L reads rows ++ row t rows) (left_to_read (L ++ t ∷ []) reads rows)
+  pub learn_left : (t : Term) → AreRows vector ord None L rows reads places → IsPermutation (unread rows reads L ++ row t rows) (unread rows reads (L ++ t ∷ []))
   learn_left t a = learn_one L t reads rows a.reads_count (λ k h. read_low vector ord None L rows reads places a k (omega (arith, h, a.reads_count)))
 
 -- ---- the same of equal lists
@@ -238,12 +178,12 @@ move_rows {M} vector ord x L L' rows rows' reads reads' places places' e f g h a
     (subst (λ (A : List ℕ). AreRows vector ord x L rows A places') g
     (subst (λ (A : List (Place M)). AreRows vector ord x L rows reads A) h a)))
 
-pub move_out : (ord : Order) (p : ℕ) (L L' rows rows' : List Term) (reads reads' after after' : List ℕ) (t : Term) → L ≡ L' → rows ≡ rows' → reads ≡ reads' → after ≡ after' → TakesOut ord p (left_to_read L reads rows) (left_to_read L after rows) t → TakesOut ord p (left_to_read L' reads' rows') (left_to_read L' after' rows') t
+pub move_out : (ord : Order) (p : ℕ) (L L' rows rows' : List Term) (reads reads' after after' : List ℕ) (t : Term) → L ≡ L' → rows ≡ rows' → reads ≡ reads' → after ≡ after' → TakesOut ord p (unread rows reads L) (unread rows after L) t → TakesOut ord p (unread rows' reads' L') (unread rows' after' L') t
 move_out ord p L L' rows rows' reads reads' after after' t e f g h o =
-    subst (λ (A : List Term). TakesOut ord p (left_to_read A reads' rows') (left_to_read A after' rows') t) e
-    (subst (λ (A : List Term). TakesOut ord p (left_to_read L reads' A) (left_to_read L after' A) t) f
-    (subst (λ (A : List ℕ). TakesOut ord p (left_to_read L A rows) (left_to_read L after' rows) t) g
-    (subst (λ (A : List ℕ). TakesOut ord p (left_to_read L reads rows) (left_to_read L A rows) t) h o)))
+    subst (λ (A : List Term). TakesOut ord p (unread rows' reads' A) (unread rows' after' A) t) e
+    (subst (λ (A : List Term). TakesOut ord p (unread A reads' L) (unread A after' L) t) f
+    (subst (λ (A : List ℕ). TakesOut ord p (unread rows A L) (unread rows after' L) t) g
+    (subst (λ (A : List ℕ). TakesOut ord p (unread rows reads L) (unread rows A L) t) h o)))
 
 -- ---- the rows of a worker, term by term
 pub none_first : {M E : Type 0} (vector : M → List ℕ) (value : E → ℤ) (W w : ℕ) (ts rows : List (TermOf M E)) → rows ≡ [] → sum_of vector value rows ≡ every W w 1 (drop 1 (sum_of vector value (take 1 ts)))

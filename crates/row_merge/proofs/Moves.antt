@@ -2,15 +2,16 @@
 use Rattle.std.proofs.Common.{◌≡◌, ◌≢◌, ℕ, zero, suc, ◌+◌, ◌<◌, ◌≤◌, ◌⊎◌, inl, inr, Bool, true, false, eqb, true≢false, eqb-true, eq-eqb, List, [], ◌∷◌, ◌++◌, length, set, replicate, get_or, Some, None, refl, sym, ap, ◌∙◌, subst, arith, get_or-set_same, get_or-set_other}
 use Rattle.std.proofs.lemmas.Bool.{cases_lt}
 use Rattle.std.proofs.lemmas.List.{length-set, get_or_past, length-replicate, get_or-replicate, get_or_append_left, drop_all, length_push}
-use Rattle.sdmp_laws.specs.Order.{Order, ◌⋅◌, Below}
+use Rattle.sdmp_laws.specs.Order.{Order, ◌⋅◌, Below, IsUnder}
 use Rattle.sdmp_laws.specs.Poly.{Term, row, Over, Decreasing}
 use Rattle.sdmp_laws.proofs.OrderLemmas.{order_facts}
 use Rattle.chained_heap.specs.declared.node.Place.{Place}
 use Rattle.chained_heap.specs.declared.node.Place.TheVariants.{Out, In, Taken}
 use Rattle.chained_heap.specs.Shape.{place_at, is_taken}
-use Rattle.row_merge.specs.Learned.{left_to_read, no_term, product_at, ceiling, IsTakenAt, IsUnder, IsPlaced, AreRows, IsMoved, IsPopped}
-use Rattle.row_merge.proofs.Products.{product_below, length_at, next_lower}
+use Rattle.row_merge.specs.Learned.{unread, no_term, product_at, ceiling, IsTakenAt, IsPlaced, AreRows, IsMoved, IsPopped}
+use Rattle.row_merge.proofs.Products.{length_at, next_lower}
 use Rattle.row_merge.proofs.Places.{ceiling_low}
+use Rattle.sdmp_laws.proofs.DivisionLemmas.{below_left}
 
 not_equal : (i k : ℕ) → eqb i k ≡ false → i ≢ k
 not_equal i k e z = true≢false (sym (eq-eqb i k z) ∙ e)
@@ -120,7 +121,7 @@ module _ {M : Type 0} (vector : M → List ℕ) (ord : Order) (x : List ℕ) (L 
           lower : r + 1 < length L → Below ord (product_at rows L k (r + 1)) x
           lower l =
               subst (λ (y : List ℕ). Below ord (product_at rows L k (r + 1)) y) here.1
-              (product_below ord (get_or L (r + 1) no_term).monomial (get_or L r no_term).monomial (get_or rows k no_term).monomial
+              (below_left ord (get_or L (r + 1) no_term).monomial (get_or L r no_term).monomial (get_or rows k no_term).monomial
               (length_at n L (r + 1) wl l ∙ sym (length_at n L r wl (omega arith)))
               (let s : r + 1 ≡ suc r = omega arith in subst (λ (j : ℕ). Below ord (get_or L j no_term).monomial (get_or L r no_term).monomial) (sym s) (next_lower ord L r dl (omega (arith, l)))))
 
@@ -312,8 +313,9 @@ none_taken {M} vector ord B A reads places a r = by (cases_lt r (length A))
     by (inl h) = pick (place_at places r) _ _ _ (a.placed r h)
     by (inr h) = ap is_taken (get_or_past places r Out (omega (arith, h, a.places_count)))
 
-pub none_left : (reads : List ℕ) (rows : List Term) → left_to_read [] reads rows ≡ []
-unfolding left_to_read row
-none_left [] rows = refl
+pub none_left : (reads : List ℕ) (rows : List Term) → unread rows reads [] ≡ []
+unfolding unread row
+none_left [] [] = refl
+none_left [] (s ∷ rows) = refl
 none_left (r ∷ reads) [] = refl
-none_left (r ∷ reads) (s ∷ rows) = ap (λ (A : List Term). row s A ++ left_to_read [] reads rows) (drop_all r [] (omega arith)) ∙ none_left reads rows
+none_left (r ∷ reads) (s ∷ rows) = ap (λ (A : List Term). row s A ++ unread rows reads []) (drop_all r [] (omega arith)) ∙ none_left reads rows

@@ -14,15 +14,16 @@ use Rattle.sdmp_laws.specs.Poly.{norm}
 use Rattle.chained_heap.specs.declared.node.Place.{Place}
 use Rattle.chained_heap.specs.declared.node.Place.TheVariants.{Out, In, Taken}
 use Rattle.chained_heap.specs.Shape.{place_at}
-use Rattle.row_merge.specs.Rows.{strided, unread, reads_of, made, entered, IsFalling, IsNext, InRange}
-use Rattle.row_merge.specs.Learned.{IsPlaced, IsTakenAt, AreRows, ceiling, product_at}
+use Rattle.row_merge.specs.Rows.{strided, reads_of, made, entered, IsFalling, IsNext, InRange}
+use Rattle.row_merge.specs.Learned.{IsPlaced, IsTakenAt, AreRows, ceiling, product_at, unread}
 use Rattle.row_merge.specs.Part.{row_count, IsPart}
 use Rattle.row_merge.proofs.Falls.{length-strided, falling_strided, norm-strided}
 use Rattle.row_merge.proofs.Places.{ceiling_low}
 use Rattle.row_merge.proofs.Moves.{rows_start}
 use Rattle.row_merge.proofs.Counts.{none_present}
 use Rattle.row_merge.proofs.Sums.{within}
-use Rattle.row_merge.proofs.Unread.{unread_begins, unread_length, length-times}
+use Rattle.sdmp_laws.proofs.ListLemmas.{length-times}
+use Rattle.row_merge.proofs.Unread.{unread_begins, unread_length}
 use Rattle.row_merge.proofs.Every.{rows_are, rows_in_range}
 
 zeros_at : (n k : ℕ) → reads_of (replicate n 0) k ≡ 0

@@ -5,7 +5,7 @@ use Rattle.std.specs.Ordering.{is_eq, is_gt}
 use Rattle.std.proofs.lemmas.List.{get_or_past, length-map}
 use Rattle.std.proofs.lemmas.List.Elements.{All-head, All-tail}
 use Rattle.std.proofs.lemmas.List.Sorted.{IsPermutation-sym, Contains-permutation}
-use Rattle.sdmp_laws.specs.Order.{Order, ◌⋅◌, Below, compare}
+use Rattle.sdmp_laws.specs.Order.{Order, ◌⋅◌, Below, compare, IsUnder}
 use Rattle.sdmp_laws.specs.Poly.{Term, term_times, Over, AllBelow, Decreasing}
 use Rattle.sdmp_laws.specs.Division.{AtOrAbove, AllAtOrBelow}
 use Rattle.sdmp_laws.proofs.OrderLemmas.{Three, is_less, is_equal, is_greater, below_total, order_facts, length_times}
@@ -14,7 +14,7 @@ use Rattle.std.proofs.Math.ListN.{get_or-map}
 use Rattle.chained_heap.specs.declared.node.Place.{Place}
 use Rattle.chained_heap.specs.declared.node.Place.TheVariants.{Out, In, Taken}
 use Rattle.chained_heap.specs.Shape.{place_at, is_at, is_taken, taken_at, IsTop, IsEmpty}
-use Rattle.row_merge.specs.Learned.{left_to_read, no_term, product_at, ceiling, IsTakenAt, IsUnder, IsPlaced, AreRows, IsGreatest}
+use Rattle.row_merge.specs.Learned.{unread, no_term, product_at, ceiling, IsTakenAt, IsPlaced, AreRows, IsGreatest}
 use Rattle.row_merge.proofs.Products.{Falls, read_one, length_at, next_lower, all_left}
 
 place_cases : {M : Type 0} (A : Type 0) (p : Place M) → (p ≡ Out → A) → ((a : M) → p ≡ In a → A) → (p ≡ Taken → A) → A
@@ -84,7 +84,7 @@ module _ {M : Type 0} (vector : M → List ℕ) (ord : Order) (x : Option (List 
 
   pub all_low : (n : ℕ) (Q : List ℕ → Type 0) → Falls ord n Q → AreRows vector ord x L rows reads places → Decreasing ord rows → Over n rows → Decreasing ord L → Over n L
       → ((k : ℕ) (a : M) → k < length rows → place_at places k ≡ In a → IsUnder ord x (vector a) → Q (vector a)) → ((m : List ℕ) → IsTakenAt x m → Q m)
-      → All (λ (u : Term). Q u.monomial) (left_to_read L reads rows)
+      → All (λ (u : Term). Q u.monomial) (unread rows reads L)
   all_low n Q f a d o dl w inq tq = all_left ord n Q L reads rows f dl w o a.reads_count (placed_low n Q f a d o w inq tq)
 
 -- ---- the greatest of the heap
@@ -135,19 +135,19 @@ module _ {M : Type 0} (vector : M → List ℕ) (ord : Order) (n : ℕ) (cmp : M
       pick (inl s) = absurd (true≢false (sym (ap is_eq (o.ordered a x ∙ ap (λ (v : List ℕ). compare ord v (vector x)) s ∙ compare_same ord (vector x))) ∙ e))
 
   -- the heap's greatest monomial is that of all products that are left
-  pub top_is_greatest : AreOrdered vector ord n cmp → (L rows : List Term) (reads : List ℕ) (places : List (Place M)) (x : M) → AreRows vector ord None L rows reads places → Decreasing ord rows → Over n rows → Decreasing ord L → Over n L → IsTop cmp places x → IsGreatest ord (left_to_read L reads rows) (vector x)
+  pub top_is_greatest : AreOrdered vector ord n cmp → (L rows : List Term) (reads : List ℕ) (places : List (Place M)) (x : M) → AreRows vector ord None L rows reads places → Decreasing ord rows → Over n rows → Decreasing ord L → Over n L → IsTop cmp places x → IsGreatest ord (unread rows reads L) (vector x)
   unfolding IsPlaced IsTakenAt term_times
   top_is_greatest o L rows reads places x a d w dl wl t = pick (place_at places t.row) refl
     where
       k : ℕ
       k = t.row
 
-      low : AllAtOrBelow ord (vector x) (left_to_read L reads rows)
-      low = all_at_or_below ord (vector x) (left_to_read L reads rows)
+      low : AllAtOrBelow ord (vector x) (unread rows reads L)
+      low = all_at_or_below ord (vector x) (unread rows reads L)
           (all_low vector ord None L rows reads places n (λ (y : List ℕ). AtOrAbove ord y (vector x)) (λ u v lu lv b h. inr (below_then_at ord u v (vector x) b h)) a d w dl wl
           (λ i m h e u. at_or_below o m x (t.above i m e)) (λ m h. absurd h))
 
-      at : (m : M) → place_at places k ≡ In m → IsPlaced vector ord None (In m) (get_or reads k 0) (ceiling L reads k) (product_at rows L k (get_or reads k 0)) → k < length rows → is_eq (cmp m x) ≡ true → IsGreatest ord (left_to_read L reads rows) (vector x)
+      at : (m : M) → place_at places k ≡ In m → IsPlaced vector ord None (In m) (get_or reads k 0) (ceiling L reads k) (product_at rows L k (get_or reads k 0)) → k < length rows → is_eq (cmp m x) ≡ true → IsGreatest ord (unread rows reads L) (vector x)
       at m e q h g =
           let l : get_or reads k 0 < length L = omega (arith, q.0, ceiling_low vector ord None L rows reads places a k h) in
           let u = term_times (get_or rows k no_term) (get_or L (get_or reads k 0) no_term) in
@@ -158,7 +158,7 @@ module _ {M : Type 0} (vector : M → List ℕ) (ord : Order) (n : ℕ) (cmp : M
             below = low;
           }
 
-      pick : (p : Place M) → place_at places k ≡ p → IsGreatest ord (left_to_read L reads rows) (vector x)
+      pick : (p : Place M) → place_at places k ≡ p → IsGreatest ord (unread rows reads L) (vector x)
       pick Out e = absurd (true≢false (sym (sym (ap (is_at cmp x) e) ∙ t.here)))
       pick Taken e = absurd (true≢false (sym (sym (ap (is_at cmp x) e) ∙ t.here)))
       pick (In m) e =
@@ -166,10 +166,10 @@ module _ {M : Type 0} (vector : M → List ℕ) (ord : Order) (n : ℕ) (cmp : M
           at m e (subst (λ (p : Place M). IsPlaced vector ord None p (get_or reads k 0) (ceiling L reads k) (product_at rows L k (get_or reads k 0))) e (a.placed k h)) h (sym (ap (is_at cmp x) e) ∙ t.here)
 
   -- an empty heap has no product left
-  pub empty_has_none : (L rows : List Term) (reads : List ℕ) (places : List (Place M)) → AreRows vector ord None L rows reads places → Decreasing ord rows → Over n rows → Decreasing ord L → Over n L → IsEmpty places → left_to_read L reads rows ≡ []
+  pub empty_has_none : (L rows : List Term) (reads : List ℕ) (places : List (Place M)) → AreRows vector ord None L rows reads places → Decreasing ord rows → Over n rows → Decreasing ord L → Over n L → IsEmpty places → unread rows reads L ≡ []
   unfolding IsTakenAt
   empty_has_none L rows reads places a d w dl wl t =
-      none_in (left_to_read L reads rows) (all_low vector ord None L rows reads places n (λ y. ⊥) (λ u v lu lv b h. h) a d w dl wl (λ i m h e u. t i m e) (λ m h. h))
+      none_in (unread rows reads L) (all_low vector ord None L rows reads places n (λ y. ⊥) (λ u v lu lv b h. h) a d w dl wl (λ i m h e u. t i m e) (λ m h. h))
 
   -- the rows at the greatest monomial are taken
   pub taken_rows : AreOrdered vector ord n cmp → (L rows : List Term) (reads : List ℕ) (places : List (Place M)) (x : M) → AreRows vector ord None L rows reads places → IsTop cmp places x → AreRows vector ord (Some (vector x)) L rows reads (map (taken_at cmp x) places)
@@ -206,7 +206,7 @@ module _ {M : Type 0} (vector : M → List ℕ) (ord : Order) (x : List ℕ) (L 
       pick k (In m) e q = (q.0, q.1, tt)
       pick k Taken e q = absurd (true≢false (sym (ap is_taken e) ∙ none k))
 
-  pub left_below : (n : ℕ) → length x ≡ n → AreRows vector ord (Some x) L rows reads places → ((r : ℕ) → is_taken (place_at places r) ≡ false) → Decreasing ord rows → Over n rows → Decreasing ord L → Over n L → All (λ (u : Term). Below ord u.monomial x) (left_to_read L reads rows)
+  pub left_below : (n : ℕ) → length x ≡ n → AreRows vector ord (Some x) L rows reads places → ((r : ℕ) → is_taken (place_at places r) ≡ false) → Decreasing ord rows → Over n rows → Decreasing ord L → Over n L → All (λ (u : Term). Below ord u.monomial x) (unread rows reads L)
   unfolding IsTakenAt IsUnder
   left_below n lx a none d w dl wl =
       all_low vector ord None L rows reads places n (λ (y : List ℕ). Below ord y x) (λ u v lu lv b h. (order_facts ord).transitive u v x b h) (untaken_rows a none) d w dl wl

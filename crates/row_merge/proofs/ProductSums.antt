@@ -11,24 +11,17 @@ use Rattle.sdmp_laws.proofs.Ints.{red_add, red_red, red_zero, add_zero}
 use Rattle.sdmp_laws.proofs.OrderLemmas.{alike_self}
 use Rattle.sdmp_laws.proofs.PolyLemmas.{total_append}
 use Rattle.sdmp_laws.proofs.TermsLemmas.{total_nil, total_one, total_above}
-use Rattle.sdmp_laws.proofs.Parts.{norm_append, norm_cons, total-le-norm}
-use Rattle.sdmp_laws.proofs.Permutations.{total-permutation}
+use Rattle.sdmp_laws.proofs.Parts.{norm_append, norm_cons, norm_permutation, total-le-norm}
+use Rattle.sdmp_laws.proofs.Permutations.{total_permutation}
 use Rattle.canonical_terms.specs.declared.term.TermOf.{TermOf}
 use Rattle.canonical_terms.specs.View.{term_of, sum_of}
 use Rattle.chained_heap.specs.declared.node.Place.{Place}
 use Rattle.chained_heap.specs.declared.node.Place.TheVariants.{Taken}
 use Rattle.chained_heap.specs.Shape.{place_at}
-use Rattle.row_merge.specs.Learned.{left_to_read, no_term, product_at, ceiling, IsPlaced, AreRows, TakesOut}
+use Rattle.row_merge.specs.Learned.{unread, no_term, product_at, ceiling, IsPlaced, AreRows, TakesOut}
 use Rattle.row_merge.proofs.Products.{read_one}
 use Rattle.row_merge.proofs.Places.{ceiling_low}
 use Rattle.row_merge.proofs.Moves.{taken_facts}
-
-pub perm_norm : (A B : List Term) → IsPermutation A B → norm B ≡ norm A
-unfolding norm
-perm_norm A B h = sum_by-IsPermutation (λ (t : Term). unsigned_abs t.coefficient) A B h
-
-pub perm_total : (m : List ℕ) (A B : List Term) → IsPermutation A B → total B m ≡ total A m
-perm_total m A B h = ap (λ (l : List Term). total l m) (sym (map-id B)) ∙ total-permutation (λ (t : Term). t) m A B h ∙ ap (λ (l : List Term). total l m) (map-id A)
 
 -- the products taken so far, their sum, and what is left
 pub record Summing (ord : Order) (p : ℕ) (x : List ℕ) (before left : List Term) (sum : ℤ) : Type 0 where
@@ -60,14 +53,14 @@ pub sum_size : (ord : Order) (x : List ℕ) (before left rest : List Term) (t : 
 sum_size ord x before left rest t sum product s h e f =
     let z : sum +ℤ product ≡ total (s.taken ++ t ∷ []) x = sym (total_push s.taken t x e ∙ (λ i. s.is i +ℤ sym f i)) in
     let all : IsPermutation before ((s.taken ++ t ∷ []) ++ rest) = IsPermutation-pop_more before s.taken left rest t s.split h in
-    let n : norm ((s.taken ++ t ∷ []) ++ rest) ≡ norm before = perm_norm before _ all in
+    let n : norm ((s.taken ++ t ∷ []) ++ rest) ≡ norm before = norm_permutation before _ all in
     let a = total-le-norm (s.taken ++ t ∷ []) x in
     let b : unsigned_abs (sum +ℤ product) ≡ unsigned_abs (total (s.taken ++ t ∷ []) x) = ap unsigned_abs z in
     omega (arith, n, a, b, norm_append (s.taken ++ t ∷ []) rest)
 
 pub product_size : (ord : Order) (p : ℕ) (x : List ℕ) (before left rest : List Term) (t : Term) (sum : ℤ) → Summing ord p x before left sum → IsPermutation left (t ∷ rest) → unsigned_abs t.coefficient ≤ norm before
 product_size ord p x before left rest t sum s h =
-    omega (arith, perm_norm before (s.taken ++ left) s.split, norm_append s.taken left, perm_norm left (t ∷ rest) h, norm_cons t rest)
+    omega (arith, norm_permutation before (s.taken ++ left) s.split, norm_append s.taken left, norm_permutation left (t ∷ rest) h, norm_cons t rest)
 
 pub fewer_left : (left rest : List Term) (t : Term) → IsPermutation left (t ∷ rest) → length rest < length left
 fewer_left left rest t h = omega (arith, length_permutation left (t ∷ rest) h)
@@ -80,7 +73,7 @@ sum_ends ord p before left t s b = record {
   split = s.split;
   at = s.at;
   below = b;
-  sum = sym (ap (red p) (sym (perm_total t.monomial before (s.taken ++ left) s.split) ∙ total_append s.taken left t.monomial ∙ ap (λ (z : ℤ). total s.taken t.monomial +ℤ z) (total_above ord t.monomial left b) ∙ add_zero (total s.taken t.monomial)) ∙ s.is);
+  sum = sym (ap (red p) (sym (total_permutation t.monomial before (s.taken ++ left) s.split) ∙ total_append s.taken left t.monomial ∙ ap (λ (z : ℤ). total s.taken t.monomial +ℤ z) (total_above ord t.monomial left b) ∙ add_zero (total s.taken t.monomial)) ∙ s.is);
 }
 
 -- the product that a row reads next
@@ -95,7 +88,7 @@ module _ {M : Type 0} (vector : M → List ℕ) (ord : Order) (x : List ℕ) (L 
       (subst (λ (q : Place M). IsPlaced vector ord (Some x) q (get_or reads k 0) (ceiling L reads k) (product_at rows L k (get_or reads k 0))) e (a.placed k h)) in
       (omega (arith, f.0, ceiling_low vector ord (Some x) L rows reads places a k h), f.1)
 
-  pub taken_split : AreRows vector ord (Some x) L rows reads places → k < length rows → place_at places k ≡ Taken → IsPermutation (left_to_read L reads rows) (taken_product L rows reads k ∷ left_to_read L (set reads k (get_or reads k 0 + 1)) rows)
+  pub taken_split : AreRows vector ord (Some x) L rows reads places → k < length rows → place_at places k ≡ Taken → IsPermutation (unread rows reads L) (taken_product L rows reads k ∷ unread rows (set reads k (get_or reads k 0 + 1)) L)
   unfolding taken_product
   taken_split a h e = read_one L reads rows k a.reads_count h (taken_row a h e).0
 

@@ -14,15 +14,9 @@ use Rattle.sdmp_laws.proofs.TermsLemmas.{terms_poly, terms_equal}
 use Rattle.sdmp_laws.proofs.PolyLemmas.{Same-times_comm}
 use Rattle.sdmp_laws.proofs.LongLemmas.{Over-times}
 use Rattle.row_merge.proofs.PartLemmas.{room_norm}
+use Rattle.sdmp_laws.proofs.ListLemmas.{every_one, AllDegrees-up}
 
 -- ---- the only worker has all rows
-every_one : (i : ℕ) (A : List Term) → every 1 0 i A ≡ A
-unfolding every
-every_one i [] = refl
-every_one i (t ∷ A) =
-    let z : i % 1 ≡ 0 = omega (arith, mod-lt i (let o : 0 < 1 = omega arith in o)) in
-    ap (λ (b : Bool). cond b (t ∷ every 1 0 (suc i) A) (every 1 0 (suc i) A)) (eq-eqb (i % 1) 0 z) ∙ ap (λ (L : List Term). t ∷ L) (every_one (suc i) A)
-
 part_one : (f g : List Term) → part f g 1 0 ≡ times f g
 unfolding part
 part_one f g = ap (λ (A : List Term). times A g) (every_one 0 f)
@@ -31,11 +25,6 @@ pub all_listed : (ord : Order) (p : ℕ) (f g L rest : List Term) → L ≡ rest
 all_listed ord p f g L rest a b = a ∙ b ∙ ap (terms ord p) (part_one f g)
 
 -- ---- the product is within the limits
-degrees_grow : (D E : ℕ) (A : List Term) → D ≤ E → AllDegrees D A → AllDegrees E A
-unfolding AllDegrees
-degrees_grow D E [] l h = tt
-degrees_grow D E (t ∷ A) l h = (omega (arith, l, h.0), degrees_grow D E A l h.1)
-
 degrees_fit : (lim : ℕ) (f g : List Term) → AllDegrees lim f → AllDegrees lim g → (IsDegreeOver lim f g → ⊥) → degree (lm f) + degree (lm g) ≤ lim
 unfolding lm AllDegrees degree
 degrees_fit lim [] [] h k n = omega arith
@@ -53,7 +42,7 @@ product_canonical ord p n lim f g a b room =
     record {
       poly = terms_poly ord p n (times f g) (Over-times n f g a.poly.vectors b.poly.vectors);
       degrees = laws.2 lim (times f g)
-          (degrees_grow (degree (lm f) + degree (lm g)) lim (times f g) (degrees_fit lim f g a.degrees b.degrees room.degree_fits)
+          (AllDegrees-up (degree (lm f) + degree (lm g)) lim (times f g) (degrees_fit lim f g a.degrees b.degrees room.degree_fits)
           (laws.1 (degree (lm f)) (degree (lm g)) f g (laws.0 f a.poly) (laws.0 g b.poly)));
       norm_fits = λ z. omega (arith, ap (λ (q : ℕ). norm (terms ord q (times f g))) z, terms_norm ord (times f g), norm_times f g, room_norm lim p f g room z);
     }

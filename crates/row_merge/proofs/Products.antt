@@ -9,7 +9,8 @@ use Rattle.sdmp_laws.specs.Poly.{Term, term_times, row, Over, AllBelow, Decreasi
 use Rattle.sdmp_laws.proofs.Ints.{mul_comm}
 use Rattle.sdmp_laws.proofs.OrderLemmas.{order_facts, times_comm, length_times}
 use Rattle.sdmp_laws.proofs.TermsLemmas.{same_term}
-use Rattle.row_merge.specs.Learned.{left_to_read, no_term, product_at}
+use Rattle.row_merge.specs.Learned.{unread, no_term, product_at}
+use Rattle.sdmp_laws.proofs.DivisionLemmas.{below_left}
 
 same_lists : {X : Type 0} (xs ys : List X) → xs ≡ ys → IsPermutation xs ys
 same_lists xs ys e = subst (λ (l : List _). IsPermutation xs l) e (IsPermutation-refl xs)
@@ -27,35 +28,35 @@ pub term_times-comm : (s t : Term) → term_times s t ≡ term_times t s
 unfolding term_times
 term_times-comm s t = same_term _ _ (times_comm s.monomial t.monomial) (mul_comm s.coefficient t.coefficient)
 
-left_cons : (L : List Term) (r : ℕ) (reads : List ℕ) (s : Term) (rows : List Term) → left_to_read L (r ∷ reads) (s ∷ rows) ≡ row s (drop r L) ++ left_to_read L reads rows
-unfolding left_to_read
+left_cons : (L : List Term) (r : ℕ) (reads : List ℕ) (s : Term) (rows : List Term) → unread (s ∷ rows) (r ∷ reads) L ≡ row s (drop r L) ++ unread rows reads L
+unfolding unread
 left_cons L r reads s rows = refl
 
 -- ---- a product is read
 pub read_one : (L : List Term) (reads : List ℕ) (rows : List Term) (k : ℕ) → length reads ≡ length rows → k < length rows → get_or reads k 0 < length L
-    → IsPermutation (left_to_read L reads rows) (term_times (get_or rows k no_term) (get_or L (get_or reads k 0) no_term) ∷ left_to_read L (set reads k (get_or reads k 0 + 1)) rows)
-unfolding left_to_read
+    → IsPermutation (unread rows reads L) (term_times (get_or rows k no_term) (get_or L (get_or reads k 0) no_term) ∷ unread rows (set reads k (get_or reads k 0 + 1)) L)
+unfolding unread
 read_one L [] [] k e h l = absurd (omega arith)
 read_one L [] (s ∷ rows) k e h l = absurd (omega arith)
 read_one L (r ∷ reads) [] k e h l = absurd (omega arith)
 read_one L (r ∷ reads) (s ∷ rows) zero e h l =
-    same_lists _ _ (ap (λ (A : List Term). row s A ++ left_to_read L reads rows) (drop_more L r no_term l) ∙ ap (λ (A : List Term). A ++ left_to_read L reads rows) (row_cons s (get_or L r no_term) (drop (r + 1) L)))
+    same_lists _ _ (ap (λ (A : List Term). row s A ++ unread rows reads L) (drop_more L r no_term l) ∙ ap (λ (A : List Term). A ++ unread rows reads L) (row_cons s (get_or L r no_term) (drop (r + 1) L)))
 read_one L (r ∷ reads) (s ∷ rows) (suc k) e h l =
     let ih = read_one L reads rows k (omega arith) (omega arith) l in
     IsPermutation-trans _ _ _ (IsPermutation-append_right (row s (drop r L)) _ _ ih) (IsPermutation-middle (row s (drop r L)) _ _)
 
 -- ---- a term is learned
 pub learn_one : (L : List Term) (t : Term) (reads : List ℕ) (rows : List Term) → length reads ≡ length rows → ((k : ℕ) → k < length reads → get_or reads k 0 ≤ length L)
-    → IsPermutation (left_to_read L reads rows ++ row t rows) (left_to_read (L ++ t ∷ []) reads rows)
-unfolding left_to_read row
+    → IsPermutation (unread rows reads L ++ row t rows) (unread rows reads (L ++ t ∷ []))
+unfolding unread row
 learn_one L t [] [] e h = IsPermutation-refl []
 learn_one L t [] (s ∷ rows) e h = absurd (omega arith)
 learn_one L t (r ∷ reads) [] e h = absurd (omega arith)
 learn_one L t (r ∷ reads) (s ∷ rows) e h =
     let A = row s (drop r L) in
-    let U = left_to_read L reads rows in
+    let U = unread rows reads L in
     let V = row t rows in
-    let W = left_to_read (L ++ t ∷ []) reads rows in
+    let W = unread rows reads (L ++ t ∷ []) in
     let ih : IsPermutation (U ++ V) W = learn_one L t reads rows (omega arith) (λ k l. h (suc k) (omega arith)) in
     let front : row s (drop r (L ++ t ∷ [])) ≡ A ++ term_times t s ∷ [] = ap (row s) (drop-append-le r L (t ∷ []) (h zero (omega arith))) ∙ row_push s t (drop r L) ∙ ap (λ (u : Term). A ++ u ∷ []) (term_times-comm s t) in
     IsPermutation-trans ((A ++ U) ++ term_times t s ∷ V) (A ++ (term_times t s ∷ (U ++ V))) (row s (drop r (L ++ t ∷ [])) ++ W)
@@ -67,9 +68,6 @@ learn_one L t (r ∷ reads) (s ∷ rows) e h =
 -- a property that goes down in the order
 abbrev pub Falls : Order → ℕ → (List ℕ → Type 0) → Type 0
 Falls ord n Q = (a b : List ℕ) → length a ≡ n → length b ≡ n → Below ord a b → Q b → Q a
-
-pub product_below : (ord : Order) (a b c : List ℕ) → length a ≡ length b → Below ord a b → Below ord (c ⋅ a) (c ⋅ b)
-product_below ord a b c l h = subst (λ (x : List ℕ). Below ord x (c ⋅ b)) (times_comm a c) (subst (λ (x : List ℕ). Below ord (a ⋅ c) x) (times_comm b c) ((order_facts ord).compatible a b c l h))
 
 pub length_at : (n : ℕ) (L : List Term) (k : ℕ) → Over n L → k < length L → length (get_or L k no_term).monomial ≡ n
 unfolding Over
@@ -101,7 +99,7 @@ unfolding row Over AllBelow term_times
 row_all ord n Q s m [] f ls lm o b q = All-nil _
 row_all ord n Q s m (u ∷ A) f ls lm o b q =
     All-cons (λ (v : Term). Q v.monomial) (term_times s u) (row s A)
-    (f (s.monomial ⋅ u.monomial) (s.monomial ⋅ m) (length_times s.monomial u.monomial (ls ∙ sym o.0) ∙ ls) (length_times s.monomial m (ls ∙ sym lm) ∙ ls) (product_below ord u.monomial m s.monomial (o.0 ∙ sym lm) b.0) q)
+    (f (s.monomial ⋅ u.monomial) (s.monomial ⋅ m) (length_times s.monomial u.monomial (ls ∙ sym o.0) ∙ ls) (length_times s.monomial m (ls ∙ sym lm) ∙ ls) (below_left ord u.monomial m s.monomial (o.0 ∙ sym lm) b.0) q)
     (row_all ord n Q s m A f ls lm o.1 b.1 q)
 
 -- a row holds what its first product holds
@@ -124,11 +122,12 @@ rest_all ord n Q s L r f ls d o q = pick (ltb r (length L)) refl
         subst (λ (A : List Term). All (λ (u : Term). Q u.monomial) (row s A)) (sym (drop_all r L h)) (All-nil _)
 
 pub all_left : (ord : Order) (n : ℕ) (Q : List ℕ → Type 0) (L : List Term) (reads : List ℕ) (rows : List Term) → Falls ord n Q → Decreasing ord L → Over n L → Over n rows → length reads ≡ length rows
-    → ((k : ℕ) → k < length rows → get_or reads k 0 < length L → Q (product_at rows L k (get_or reads k 0))) → All (λ (u : Term). Q u.monomial) (left_to_read L reads rows)
-unfolding left_to_read Over
-all_left ord n Q L [] rows f d o w e h = All-nil _
+    → ((k : ℕ) → k < length rows → get_or reads k 0 < length L → Q (product_at rows L k (get_or reads k 0))) → All (λ (u : Term). Q u.monomial) (unread rows reads L)
+unfolding unread Over
+all_left ord n Q L [] [] f d o w e h = All-nil _
+all_left ord n Q L [] (s ∷ rows) f d o w e h = absurd (omega arith)
 all_left ord n Q L (r ∷ reads) [] f d o w e h = absurd (omega arith)
 all_left ord n Q L (r ∷ reads) (s ∷ rows) f d o w e h =
-    All-append (λ (u : Term). Q u.monomial) (row s (drop r L)) (left_to_read L reads rows)
+    All-append (λ (u : Term). Q u.monomial) (row s (drop r L)) (unread rows reads L)
     (rest_all ord n Q s L r f w.0 d o (λ l. h zero (omega arith) l))
     (all_left ord n Q L reads rows f d o w.1 (omega arith) (λ k l m. h (suc k) (omega arith) m))

@@ -8,12 +8,12 @@ use Rattle.sdmp_laws.specs.Order.{Order}
 use Rattle.sdmp_laws.specs.Poly.{Term, Over, Decreasing}
 use Rattle.chained_heap.specs.declared.node.Place.{Place}
 use Rattle.chained_heap.specs.Shape.{IsTop, IsEmpty}
-use Rattle.row_merge.specs.Learned.{left_to_read, AreRows, IsGreatest}
+use Rattle.row_merge.specs.Learned.{unread, AreRows, IsGreatest}
 use Rattle.row_merge.proofs.Places.{AreOrdered, top_is_greatest, empty_has_none}
 
 module _ {M : Type 0} (vector : M → List ℕ) (ord : Order) (n : ℕ) (cmp : M → M → Ordering) where
   pub top_says : AreOrdered vector ord n cmp → (L rows : List Term) (reads : List ℕ) (places : List (Place M)) → AreRows vector ord None L rows reads places → Decreasing ord rows → Over n rows → Decreasing ord L → Over n L
-      → (o : Option M) → MatchOption o (IsEmpty places) (λ x. IsTop cmp places x) → MatchOption o (left_to_read L reads rows ≡ []) (λ x. IsGreatest ord (left_to_read L reads rows) (vector x))
+      → (o : Option M) → MatchOption o (IsEmpty places) (λ x. IsTop cmp places x) → MatchOption o (unread rows reads L ≡ []) (λ x. IsGreatest ord (unread rows reads L) (vector x))
   top_says ordered L rows reads places a d w dl wl None h = empty_has_none vector ord n cmp L rows reads places a d w dl wl h
   top_says ordered L rows reads places a d w dl wl (Some x) h = top_is_greatest vector ord n cmp ordered L rows reads places x a d w dl wl h
 

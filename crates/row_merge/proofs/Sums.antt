@@ -11,19 +11,11 @@ use Rattle.sdmp_laws.proofs.OrderLemmas.{alike_self}
 use Rattle.sdmp_laws.proofs.PolyLemmas.{total_append}
 use Rattle.sdmp_laws.proofs.TermsLemmas.{total_nil, total_cons, total_one, total_above}
 use Rattle.chained_heap.specs.declared.node.Place.{Place}
-use Rattle.row_merge.specs.Learned.{left_to_read, AreRows, TakesOut}
-use Rattle.row_merge.specs.Rows.{unread, reads_of, IsFalling, IsSum}
+use Rattle.row_merge.specs.Learned.{unread, AreRows, TakesOut}
+use Rattle.row_merge.specs.Rows.{reads_of, IsFalling, IsSum}
 use Rattle.row_merge.proofs.Places.{read_low}
-use Rattle.row_merge.proofs.ProductSums.{perm_total}
+use Rattle.sdmp_laws.proofs.Permutations.{total_permutation}
 use Rattle.row_merge.proofs.Unread.{unread_over, terms_next, terms_skip}
-
--- the same list, by its two names
-pub left_is : (B : List Term) (reads : List ℕ) (A : List Term) → left_to_read B reads A ≡ unread A reads B
-unfolding left_to_read unread
-left_is B [] [] = refl
-left_is B [] (s ∷ A) = refl
-left_is B (r ∷ reads) [] = refl
-left_is B (r ∷ reads) (s ∷ A) = ap (λ (L : List Term). row s (drop r B) ++ L) (left_is B reads A)
 
 -- no row has read more than all columns
 pub within : {M : Type 0} (vector : M → List ℕ) (ord : Order) (x : _) (B A : List Term) (reads : List ℕ) (places : List (Place M)) → AreRows vector ord x B A reads places → (k : ℕ) → reads_of reads k ≤ length B
@@ -54,14 +46,14 @@ out_same : (ord : Order) (p : ℕ) (F U : List Term) (t : Term) → TakesOut ord
 unfolding coef
 out_same ord p F U t o = record {
   at = λ m.
-      ap (red p) (sym (perm_total m F (o.taken ++ U) o.split) ∙ total_append o.taken U m)
+      ap (red p) (sym (total_permutation m F (o.taken ++ U) o.split) ∙ total_append o.taken U m)
       ∙ red_add p (total o.taken m) (total (t ∷ []) m) (total U m) (total U m) (by m (alike t.monomial m) refl) refl
       ∙ ap (red p) (sym (total_cons t U m));
 }
   where
     here : red p (total o.taken t.monomial) ≡ red p t.coefficient
     here =
-        ap (red p) (sym (add_zero (total o.taken t.monomial)) ∙ ap (λ (z : ℤ). total o.taken t.monomial +ℤ z) (sym (total_above ord t.monomial U o.below)) ∙ sym (total_append o.taken U t.monomial) ∙ perm_total t.monomial F (o.taken ++ U) o.split)
+        ap (red p) (sym (add_zero (total o.taken t.monomial)) ∙ ap (λ (z : ℤ). total o.taken t.monomial +ℤ z) (sym (total_above ord t.monomial U o.below)) ∙ sym (total_append o.taken U t.monomial) ∙ total_permutation t.monomial F (o.taken ++ U) o.split)
         ∙ sym (red_red p (total F t.monomial)) ∙ ap (red p) (sym o.sum)
 
     by : (m : List ℕ) (b : Bool) → alike t.monomial m ≡ b → red p (total o.taken m) ≡ red p (total (t ∷ []) m)

@@ -8,14 +8,12 @@ use Rattle.sdmp_laws.specs.Poly.{Term, total, coef, Same, term_times, row, times
 use Rattle.sdmp_laws.proofs.Ints.{red_zero, red_add}
 use Rattle.sdmp_laws.proofs.OrderLemmas.{Three, is_less, is_equal, is_greater, below_total, length_times}
 use Rattle.sdmp_laws.proofs.TermsLemmas.{total_cons, total_one, total_above, AllBelow-up, below_cons, nothing_below, head_facts, coef_head, cons_poly, terms_poly, terms_same, terms_only, terms_equal}
-use Rattle.row_merge.specs.Rows.{reads_of, unread}
+use Rattle.row_merge.specs.Rows.{reads_of}
+use Rattle.row_merge.specs.Learned.{unread}
+use Rattle.sdmp_laws.proofs.LongLemmas.{Over-append}
+use Rattle.sdmp_laws.proofs.ListLemmas.{length-row}
 
 -- ---- one row
-length-row : (s : Term) (B : List Term) → length (row s B) ≡ length B
-unfolding row
-length-row s [] = refl
-length-row s (t ∷ B) = ap suc (length-row s B)
-
 over_row : (n : ℕ) (s : Term) (B : List Term) (r : ℕ) → length s.monomial ≡ n → Over n B → Over n (row s (drop r B))
 unfolding Over row term_times
 over_row n s [] zero l o = tt
@@ -35,11 +33,7 @@ pub unread_over : (n : ℕ) (A : List Term) (reads : List ℕ) (B : List Term) �
 unfolding unread Over
 unread_over n [] reads B a b = tt
 unread_over n (s ∷ A) [] B a b = tt
-unread_over n (s ∷ A) (r ∷ reads) B a b = join (row s (drop r B)) (unread A reads B) (over_row n s B r a.0 b) (unread_over n A reads B a.1 b)
-  where
-    join : (X Y : List Term) → Over n X → Over n Y → Over n (X ++ Y)
-    join [] Y x y = y
-    join (t ∷ X) Y x y = (x.0, join X Y x.1 y)
+unread_over n (s ∷ A) (r ∷ reads) B a b = Over-append n (row s (drop r B)) (unread A reads B) (over_row n s B r a.0 b) (unread_over n A reads B a.1 b)
 
 pub unread_length : (A : List Term) (reads : List ℕ) (B : List Term) → length reads ≡ length A → ((k : ℕ) → reads_of reads k ≤ length B) → sum reads + length (unread A reads B) ≡ length A * length B
 unfolding unread
@@ -48,11 +42,6 @@ unread_length [] (r ∷ reads) B l w = absurd (omega arith)
 unread_length (s ∷ A) [] B l w = absurd (omega arith)
 unread_length (s ∷ A) (r ∷ reads) B l w =
     omega (arith, sum_by-cons (λ (y : ℕ). y) r reads, length-append (row s (drop r B)) (unread A reads B), length-row s (drop r B), length-drop r B, w 0, unread_length A reads B (omega arith) (λ k. w (suc k)))
-
-pub length-times : (A B : List Term) → length (times A B) ≡ length A * length B
-unfolding times
-length-times [] B = omega arith
-length-times (s ∷ A) B = omega (arith, length-append (row s B) (times A B), length-row s B, length-times A B)
 
 -- ---- the terms of what is left
 terms_below : (ord : Order) (p n : ℕ) (x : List ℕ) (U : List Term) → length x ≡ n → Over n U → AllBelow ord x U → AllBelow ord x (terms ord p U)

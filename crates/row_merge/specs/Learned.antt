@@ -1,7 +1,7 @@
 -- The rows of a divisor, and the products of learned terms that they still hold.
 use Rattle.std.specs.Prelude.{◌≡◌, ℕ, ◌+◌, ◌*◌, ◌<◌, ◌≤◌, List, [], ◌∷◌, ◌++◌, length, drop, slice_index_or, slice_index, slice_set, ◌⊎◌, pos, Option, Some, None, ℤ, ◌^◌, IsPermutation}
 use Rattle.std.specs.List.{All, Contains}
-use Rattle.sdmp_laws.specs.Order.{Order, ◌⋅◌, Below, degree}
+use Rattle.sdmp_laws.specs.Order.{Order, ◌⋅◌, IsUnder, degree}
 use Rattle.sdmp_laws.specs.Poly.{Term, coef, row, norm, Over, AllBelow, Decreasing, AllDegrees, lm}
 use Rattle.sdmp_laws.specs.Division.{AllAtOrBelow}
 use Rattle.sdmp_laws.specs.Limits.{greatest_norm}
@@ -30,10 +30,10 @@ pub record IsGreatest (ord : Order) (A : List Term) (x : List ℕ) : Type 0 wher
 
 -- ---- inside the rows
 -- the products that are left where each row has read so many of the learned terms
-unfoldable pub left_to_read : List Term → List ℕ → List Term → List Term
-left_to_read learned [] rows = []
-left_to_read learned (r ∷ reads) [] = []
-left_to_read learned (r ∷ reads) (s ∷ rows) = row s (drop r learned) ++ left_to_read learned reads rows
+unfoldable pub unread : List Term → List ℕ → List Term → List Term
+unread [] reads learned = []
+unread (s ∷ rows) [] learned = []
+unread (s ∷ rows) (r ∷ reads) learned = row s (drop r learned) ++ unread rows reads learned
 
 abbrev pub no_term : Term
 no_term = record { monomial = []; coefficient = pos 0 }
@@ -50,10 +50,6 @@ ceiling learned reads k = slice_index (length learned ∷ reads) k
 unfoldable pub IsTakenAt : Option (List ℕ) → List ℕ → Type 0
 IsTakenAt None m = ⊥
 IsTakenAt (Some x) m = m ≡ x
-
-unfoldable pub IsUnder : Order → Option (List ℕ) → List ℕ → Type 0
-IsUnder ord None m = Unit {0}
-IsUnder ord (Some x) m = Below ord m x
 
 -- where a row is: out while it waits, else at its next product m
 unfoldable pub IsPlaced : {M : Type 0} → (M → List ℕ) → Order → Option (List ℕ) → Place M → ℕ → ℕ → List ℕ → Type 0

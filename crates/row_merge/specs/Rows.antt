@@ -5,7 +5,7 @@ use Rattle.sdmp_laws.specs.Ring.{IsReduced}
 use Rattle.sdmp_laws.specs.Poly.{Term, Same, terms, row, Over, AllBelow, Decreasing, AllDegrees}
 use Rattle.chained_heap.specs.declared.node.Place.{Place}
 use Rattle.chained_heap.specs.Shape.{is_taken, present, bit}
-use Rattle.row_merge.specs.Learned.{AreRows}
+use Rattle.row_merge.specs.Learned.{AreRows, unread}
 
 -- what is read past the end of a list
 abbrev pub nothing : Term
@@ -22,12 +22,6 @@ strided A first stride (suc n) = term_at A first ∷ strided A (first + stride) 
 -- those places are in a list of a length
 abbrev pub InRange : ℕ → ℕ → ℕ → ℕ → Type 0
 InRange first stride n len = (k : ℕ) → k < n → first + stride * k < len
-
--- the products that were not read: of the row of each term of A those after the first so many
-unfoldable pub unread : List Term → List ℕ → List Term → List Term
-unread [] reads B = []
-unread (s ∷ A) [] B = []
-unread (s ∷ A) (r ∷ reads) B = row s (drop r B) ++ unread A reads B
 
 -- a list of terms whose monomials fall, none of a degree above lim
 pub record IsFalling (ord : Order) (n lim : ℕ) (L : List Term) : Type 0 where

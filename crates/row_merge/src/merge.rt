@@ -38,7 +38,8 @@ pub struct RowMerge<'a, R: CoeffRing, M: Monomial> {
 impl<'a, R: CoeffRing, M: Monomial> Model for RowMerge<'a, R, M> {
     ghost use Rattle.sdmp_laws.specs.Poly.{terms};
     ghost use Rattle.canonical_terms.specs.View.{sum_of};
-    ghost use Rattle.row_merge.specs.Rows.{strided, unread, made, entered};
+    ghost use Rattle.row_merge.specs.Rows.{strided, made, entered};
+    ghost use Rattle.row_merge.specs.Learned.{unread};
     ghost use Rattle.row_merge.specs.Part.{Remaining, IsPart};
     ghost use Rattle.std.specs.Prelude.{length, All};
 
@@ -117,13 +118,9 @@ fn strided_terms<R: CoeffRing, M: Monomial>(
     ensures belongs { IfOk result (λ part. (p : ℕ) → All (λ t. R.belongs p t.coef) terms.now → All (λ t. R.belongs p t.coef) part.items) }
 {
     let mut part = Vec::new(alloc);
-    if part.reserve(count).is_err() {
-        return Err(NoMemory);
-    }
+    part.reserve(count)?;
     for slot in 0..count {
-        let Ok(()) = part.push(terms[first + stride * slot]) else {
-            return Err(NoMemory);
-        };
+        part.push(terms[first + stride * slot])?;
     }
     Ok(part)
 }

@@ -5,7 +5,7 @@ ghost use Rattle.sdmp_laws.specs.Poly.{norm, row, every, lm, Decreasing};
 ghost use Rattle.sdmp_laws.specs.Limits.{greatest_norm};
 ghost use Rattle.canonical_terms.specs.View.{term_of, sum_of};
 ghost use Rattle.chained_heap.specs.declared.node.Place.{Place};
-ghost use Rattle.row_merge.specs.Learned.{IsGreatest, HandOut, IsPopped, HasPopped, AreRows, IsMoved, TakesOut, left_to_read, product_at};
+ghost use Rattle.row_merge.specs.Learned.{IsGreatest, HandOut, IsPopped, HasPopped, AreRows, IsMoved, TakesOut, unread, product_at};
 
 use crate::waiting::{has_read, insert_if, sum_at};
 use canonical_terms::{Poly, Term};
@@ -35,7 +35,7 @@ pub struct QuotientRows<'a, R: CoeffRing, M: Monomial> {
 impl<'a, R: CoeffRing, M: Monomial> Model for QuotientRows<'a, R, M> {
     ghost use Rattle.std.specs.Prelude.{◌≡◌, ◌-◌, vec_len, vec_capacity};
     ghost use Rattle.canonical_terms.specs.View.{sum_of};
-    ghost use Rattle.row_merge.specs.Learned.{QuotientState, left_to_read, AreQuotientRows};
+    ghost use Rattle.row_merge.specs.Learned.{QuotientState, unread, AreQuotientRows};
 
     ghost Value = { QuotientState };
 
@@ -44,7 +44,7 @@ impl<'a, R: CoeffRing, M: Monomial> Model for QuotientRows<'a, R, M> {
       divisor = q.divisor.now.list;
       rows = sum_of M.vector R.value q.rows.items;
       learned = sum_of M.vector R.value q.learned.items;
-      unread = left_to_read (sum_of M.vector R.value q.learned.items) q.reads.items (sum_of M.vector R.value q.rows.items);
+      unread = unread (sum_of M.vector R.value q.rows.items) q.reads.items (sum_of M.vector R.value q.learned.items);
       spare = vec_capacity q.learned - vec_len q.learned;
     } };
 
@@ -95,9 +95,7 @@ impl<'a, R: CoeffRing, M: Monomial> QuotientRows<'a, R, M> {
         if rows.len() > u32::MAX as usize {
             return Err(NoMemory);
         }
-        let Ok(reads) = vec![in alloc; 0usize; rows.len()] else {
-            return Err(NoMemory);
-        };
+        let reads = vec![in alloc; 0usize; rows.len()]?;
         let heap = ChainedHeap::with_rows(alloc, rows.len() as u32)?;
         Ok(QuotientRows {
             divisor,
@@ -134,9 +132,7 @@ impl<'a, R: CoeffRing, M: Monomial> QuotientRows<'a, R, M> {
         ensures grows { self.old.spare ≤ self.new.spare }
         ensures refused { OnErr result (self.new.spare ≡ self.old.spare) }
     {
-        if self.learned.reserve(n).is_err() {
-            return Err(NoMemory);
-        }
+        self.learned.reserve(n)?;
         Ok(())
     }
 
@@ -206,9 +202,7 @@ fn later_rows<R: CoeffRing, M: Monomial>(
         if place % workers as usize != worker as usize {
             continue;
         }
-        let Ok(()) = rows.push(terms[place]) else {
-            return Err(NoMemory);
-        };
+        rows.push(terms[place])?;
     }
     Ok(rows)
 }

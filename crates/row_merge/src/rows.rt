@@ -4,8 +4,8 @@ ghost use Rattle.sdmp_laws.specs.Poly.{norm};
 ghost use Rattle.sdmp_laws.specs.Limits.{greatest_norm};
 ghost use Rattle.canonical_terms.specs.View.{term_of, sum_of};
 ghost use Rattle.chained_heap.specs.declared.node.Place.{Place};
-ghost use Rattle.row_merge.specs.Learned.{AreRows};
-ghost use Rattle.row_merge.specs.Rows.{unread, IsFalling, made, entered, IsRows, IsSum, IsNext, IsCounted};
+ghost use Rattle.row_merge.specs.Learned.{AreRows, unread};
+ghost use Rattle.row_merge.specs.Rows.{IsFalling, made, entered, IsRows, IsSum, IsNext, IsCounted};
 
 use crate::waiting::{insert_if, sum_at};
 use canonical_terms::Term;
@@ -40,9 +40,7 @@ impl<M: Monomial> Rows<M> {
         if count > u32::MAX as usize {
             return Err(NoMemory);
         }
-        let Ok(reads) = vec![in alloc; 0usize; count] else {
-            return Err(NoMemory);
-        };
+        let reads = vec![in alloc; 0usize; count]?;
         let heap = ChainedHeap::with_rows(alloc, count as u32)?;
         Ok(Rows {
             reads,

@@ -67,9 +67,7 @@ fn all_terms<R: CoeffRing, M: Monomial>(
     let mut list = Vec::new(alloc);
     let mut steps = Steps::new();
     while let Some(term) = merge.next(&mut steps) {
-        let Ok(()) = list.push(term) else {
-            return Err(NoMemory);
-        };
+        list.push(term)?;
     }
     Ok(list)
 }

@@ -8,7 +8,7 @@ ghost use Rattle.canonical_terms.specs.View.{term_of, sum_of};
 ghost use Rattle.chained_heap.specs.declared.node.Place.{Place};
 ghost use Rattle.chained_heap.specs.Shape.{present};
 ghost use Rattle.row_merge.specs.Rows.{made, entered, taken_rows, IsCounted};
-ghost use Rattle.row_merge.specs.Learned.{IsPopped, HasPopped, AreRows, IsMoved, TakesOut, left_to_read, product_at};
+ghost use Rattle.row_merge.specs.Learned.{IsPopped, HasPopped, AreRows, IsMoved, TakesOut, unread, product_at};
 
 use canonical_terms::{Term, TermOf};
 use chained_heap::ChainedHeap;
@@ -110,14 +110,14 @@ pub fn sum_at<R: CoeffRing, M: Monomial>(
     requires learned_fall { Decreasing M.order (sum_of M.vector R.value learned.now) }
     requires rows_belong { All (λ t. R.belongs (R.characteristic ring) t.coef) rows.now }
     requires learned_belong { All (λ t. R.belongs (R.characteristic ring) t.coef) learned.now }
-    requires fits { R.characteristic ring ≡ 0 → norm (left_to_read (sum_of M.vector R.value learned.now) reads.old (sum_of M.vector R.value rows.now)) ≤ greatest_norm }
+    requires fits { R.characteristic ring ≡ 0 → norm (unread (sum_of M.vector R.value rows.now) reads.old (sum_of M.vector R.value learned.now)) ≤ greatest_norm }
     ensures mono { result.mono ≡ mono }
     ensures belongs { R.belongs (R.characteristic ring) result.coef }
     ensures out { TakesOut
         M.order
         (R.characteristic ring)
-        (left_to_read (sum_of M.vector R.value learned.now) reads.old (sum_of M.vector R.value rows.now))
-        (left_to_read (sum_of M.vector R.value learned.now) reads.new (sum_of M.vector R.value rows.now))
+        (unread (sum_of M.vector R.value rows.now) reads.old (sum_of M.vector R.value learned.now))
+        (unread (sum_of M.vector R.value rows.now) reads.new (sum_of M.vector R.value learned.now))
         (term_of M.vector R.value result) }
     ensures rows { AreRows M.vector M.order None (sum_of M.vector R.value learned.now) (sum_of M.vector R.value rows.now) reads.new heap.new }
     ensures reads { made reads.new ≡ made reads.old + taken_rows heap.old }

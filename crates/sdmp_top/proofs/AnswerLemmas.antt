@@ -1,13 +1,12 @@
 -- Lemmas on the answers that have been written, and those that are to come.
 use Rattle.std.proofs.Common.{◌≡◌, ◌≤◌, ℕ, List, [], ◌∷◌, ◌++◌, length, take, drop, Option, Result, Ok, Err, OnOk, OnErr, is_err, Bool, true, false, map, refl, sym, ap, subst, ◌∙◌, arith, append_assoc, append-nil, length-append}
 use Rattle.std.proofs.Math.Seq.{take-append_seam}
-use Rattle.std.proofs.lemmas.List.{take-append-drop, nil_from_length}
-use Rattle.calc_session.specs.Lines.{lines, without_return}
-use Rattle.calc_session.proofs.LineLemmas.{cut_lines-nil}
+use Rattle.std.proofs.lemmas.List.{take-append-drop}
+use Rattle.calc_session.specs.Lines.{lines}
+use Rattle.calc_session.proofs.EffectiveLemmas.{no_lines}
 use Rattle.calc_session.specs.Answers.{Answers, joined, text, before, done, refused}
-use Rattle.sdmp_laws.specs.Order.{Order, Grlex}
-use Rattle.packed_monomial.specs.Packing.{limit_of}
-use Rattle.calc_session.specs.Session.{Setting, Defined, body_answers, setting_of, undefined}
+use Rattle.sdmp_laws.specs.Order.{Order}
+use Rattle.calc_session.specs.Session.{Monomials, Setting, Defined, body_answers, setting_in, setting_of, undefined}
 use Rattle.calc_session.specs.View.{Body, answers_of, held}
 use Rattle.sdmp_top.specs.declared.answering.Next.{Next}
 use Rattle.sdmp_top.specs.declared.answering.Next.TheVariants as next
@@ -165,22 +164,19 @@ without_memory told old now before after at_last p s = record {
 
 -- ---- the session that a header asks for
 
-pub asked_for : (session : Body) (ord : Order) (names : List (List ℕ)) (lim p q number : ℕ) (lines : List (List ℕ))
-    → session ≡ record { setting = record { order = ord; variables = names; limit = lim; modulus = p }; defined = [] }
-    → ord ≡ Grlex → lim ≡ limit_of (length names) → p ≡ q
-    → answers_of session number lines ≡ body_answers (setting_of names q) undefined number lines
-asked_for session ord names lim p q number lines e o l m =
+pub asked_for : (monomials : Monomials) (session : Body) (ord : Order) (names : List (List ℕ)) (lim p q number : ℕ) (lines : List (List ℕ))
+    → session ≡ record { setting = setting_in ord names lim p; defined = [] }
+    → ord ≡ monomials.order → lim ≡ monomials.limit (length names) → p ≡ q
+    → answers_of session number lines ≡ body_answers (setting_of monomials names q) undefined number lines
+asked_for monomials session ord names lim p q number lines e o l m =
     ap (λ (s : Body). answers_of s number lines) e
-    ∙ (λ i. body_answers (record { order = o i; variables = names; limit = l i; modulus = m i }) undefined number lines)
+    ∙ (λ i. body_answers (setting_in (o i) names (l i) (m i)) undefined number lines)
 
 pub same_answering : (a b : Answers) (old now : Option (List ℕ)) (before after : ℕ) (at_last : Type 0) (result : Result Ending Stop)
     → a ≡ b → IsAnswering a old now before after at_last result → IsAnswering b old now before after at_last result
 same_answering a b old now before after at_last result e h = subst (λ (told : Answers). IsAnswering told old now before after at_last result) e h
 
 -- ---- the body's end
-
-no_lines : (rest : List ℕ) → length rest ≡ 0 → lines rest ≡ []
-no_lines rest none = ap lines (nil_from_length rest none) ∙ ap (map without_return) cut_lines-nil
 
 body_ends : (setting : Setting) (defined : Defined) (number : ℕ) → body_answers setting defined number [] ≡ done
 unfolding body_answers

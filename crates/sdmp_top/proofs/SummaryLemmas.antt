@@ -3,9 +3,10 @@ use Rattle.std.proofs.Common.{◌≡◌, ◌==◌, ℕ, List, [], ◌∷◌, ◌
 use Rattle.std.specs.Fmt.{decimal}
 use Rattle.calc_session.specs.Answers.{text}
 use Rattle.calc_session.specs.Session.{answers}
-use Rattle.calc_session.specs.Demo.{demo_input}
+use Rattle.sdmp_top.specs.Monomials.{packed}
+use Rattle.calc_session.specs.Demo.{demo_input, summary}
 use Rattle.sdmp_top.specs.Outside.{Appends, AppendsPart}
-use Rattle.sdmp_top.specs.Written.{demo_text, summary_text}
+use Rattle.sdmp_top.specs.Written.{demo_text}
 
 regrouped : (o a b c d e f g h i j k : List ℕ)
     → o ++ a ++ b ++ c ++ d ++ e ++ f ++ g ++ h ++ i ++ j ++ k ≡ o ++ (a ++ b ++ c ++ d ++ e ++ f ++ g ++ h ++ i ++ j ++ k)
@@ -23,27 +24,27 @@ abbrev numbers : ℕ → ℕ → ℕ → ℕ → ℕ → List ℕ
 numbers seed input lines bytes total = codes "seed " ++ decimal seed ++ codes "\ninput " ++ decimal input ++ codes " bytes\nanswers "
     ++ decimal lines ++ codes " lines " ++ decimal bytes ++ codes " bytes\nsum " ++ decimal total ++ 10 ∷ []
 
-summary_is : (seed input : ℕ) (text : List ℕ) → summary_text seed input text ≡ numbers seed input (count_by (λ byte. byte == 10) text) (length text) (sum text)
-unfolding summary_text
+summary_is : (seed input : ℕ) (text : List ℕ) → summary seed input text ≡ numbers seed input (count_by (λ byte. byte == 10) text) (length text) (sum text)
+unfolding summary
 summary_is seed input text = refl
 
 pub summed : (seed input lines bytes total : ℕ) (text o o₁ o₂ o₃ o₄ o₅ now : List ℕ)
     → lines ≡ count_by (λ byte. byte == 10) text → bytes ≡ length text → total ≡ sum text
     → o₁ ≡ o ++ codes "seed " ++ decimal seed → o₂ ≡ o₁ ++ codes "\ninput " ++ decimal input → o₃ ≡ o₂ ++ codes " bytes\nanswers " ++ decimal lines
     → o₄ ≡ o₃ ++ codes " lines " ++ decimal bytes → o₅ ≡ o₄ ++ codes " bytes\nsum " ++ decimal total → now ≡ o₅ ++ 10 ∷ []
-    → now ≡ o ++ summary_text seed input text
+    → now ≡ o ++ summary seed input text
 summed seed input lines bytes total text o o₁ o₂ o₃ o₄ o₅ now l b t e₁ e₂ e₃ e₄ e₅ e₆ =
     glued o (codes "seed ") (decimal seed) (codes "\ninput ") (decimal input) (codes " bytes\nanswers ") (decimal lines) (codes " lines ") (decimal bytes)
     (codes " bytes\nsum ") (decimal total) (10 ∷ []) o₁ o₂ o₃ o₄ o₅ now e₁ e₂ e₃ e₄ e₅ e₆
     ∙ ap (λ s. o ++ s) ((λ i. numbers seed input (l i) (b i) (t i)) ∙ sym (summary_is seed input text))
 
-demo_is : (seed : ℕ) → summary_text seed (length (demo_input seed)) (text (answers (demo_input seed))) ≡ demo_text seed
-unfolding summary_text demo_text
+demo_is : (seed : ℕ) → summary seed (length (demo_input seed)) (text (answers packed (demo_input seed))) ≡ demo_text seed
+unfolding summary demo_text
 demo_is seed = refl
 
-pub demo_summed : (seed input : ℕ) (answered now : List ℕ) → input ≡ length (demo_input seed) → answered ≡ text (answers (demo_input seed))
-    → now ≡ summary_text seed input answered → now ≡ demo_text seed
-demo_summed seed input answered now n a e = e ∙ (λ i. summary_text seed (n i) (a i)) ∙ demo_is seed
+pub demo_summed : (seed input : ℕ) (answered now : List ℕ) → input ≡ length (demo_input seed) → answered ≡ text (answers packed (demo_input seed))
+    → now ≡ summary seed input answered → now ≡ demo_text seed
+demo_summed seed input answered now n a e = e ∙ (λ i. summary seed (n i) (a i)) ∙ demo_is seed
 
 -- what a sink that held nothing has gathered
 pub gathered_all : (old now bytes : List ℕ) → Some old ≡ Some [] → Some now ≡ Some (old ++ bytes) → now ≡ bytes

@@ -2,9 +2,10 @@
 ghost use Rattle.std.specs.Prelude.{◌≡◌, ◌==◌, ◌++◌, [], Some, count_by, length, sum, IfOk, OnOk};
 ghost use Rattle.std.specs.Fmt.{decimal};
 ghost use Rattle.calc_session.specs.Session.{answers};
-ghost use Rattle.calc_session.specs.Demo.{demo_input as demo_input_of};
+ghost use Rattle.sdmp_top.specs.Monomials.{packed};
+ghost use Rattle.calc_session.specs.Demo.{summary, demo_input as demo_input_of};
 ghost use Rattle.sdmp_top.specs.Outside.{last_count};
-ghost use Rattle.sdmp_top.specs.Written.{demo_text, summary_text};
+ghost use Rattle.sdmp_top.specs.Written.{demo_text};
 
 use crate::dispatch::answer_input;
 use crate::outside::{Failed, Sink};
@@ -30,7 +31,7 @@ pub fn demo_summary<T: Threads + Sync, G: Gate>(
     seed: u64,
 ) -> Result<Summary, NoMemory>
     ensures text { IfOk result (λ s. s.text.items ≡ demo_text seed) }
-    ensures ending { IfOk result (λ s. s.ending ≡ (answers (demo_input_of seed)).ending) }
+    ensures ending { IfOk result (λ s. s.ending ≡ (answers packed (demo_input_of seed)).ending) }
 {
     let Ok(input) = demo_input(alloc, seed) else {
         return Err(NoMemory);
@@ -53,7 +54,7 @@ fn write_summary(
     input: usize,
     answers: &[u8],
 ) -> Result<(), AllocError>
-    ensures { OnOk result (out.new.items ≡ out.old.items ++ summary_text seed input answers.now) }
+    ensures { OnOk result (out.new.items ≡ out.old.items ++ summary seed input answers.now) }
 {
     write_field(out, "seed ", seed as u128)?;
     write_field(out, "\ninput ", input as u128)?;

@@ -1,12 +1,11 @@
 //! One session for each number of variables and each ring.
 ghost use Rattle.std.specs.Prelude.{◌≡◌, ◌≢◌, ◌+◌, ◌≤◌, Err, IfOk, IsErrOf, length};
-ghost use Rattle.sdmp_laws.specs.Order.{Grlex};
-ghost use Rattle.packed_monomial.specs.Packing.{limit_of};
 ghost use Rattle.calc_session.specs.Lines.{lines};
 ghost use Rattle.calc_session.specs.Header.{IsChoice, characteristic_of};
 ghost use Rattle.calc_session.specs.Faults.{fault_line};
 ghost use Rattle.calc_session.specs.Answers.{Answers, refused, text};
 ghost use Rattle.calc_session.specs.Session.{answers, body_answers, setting_of, undefined};
+ghost use Rattle.sdmp_top.specs.Monomials.{packed};
 ghost use Rattle.sdmp_top.specs.Outside.{Appends, AppendsPart, Rose};
 ghost use Rattle.sdmp_top.specs.Written.{AppendsPieces, IsAnswering};
 
@@ -32,10 +31,10 @@ pub fn answer_input<T: Threads + Sync, G: Gate, K: Sink>(
     input: &[u8],
     sink: &mut K,
 ) -> Result<Ending, Stop>
-    ensures ending { IfOk result (λ ending. (answers input.now).ending ≡ ending) }
-    ensures text { IfOk result (λ _. Appends (K.held sink.old) (K.held sink.new) (text (answers input.now))) }
-    ensures write_fault { IsErrOf result Stop.WriteFault → AppendsPart (K.held sink.old) (K.held sink.new) (text (answers input.now)) }
-    ensures no_memory { IsErrOf result Stop.NoMemory → AppendsPieces (K.held sink.old) (K.held sink.new) (answers input.now).pieces }
+    ensures ending { IfOk result (λ ending. (answers packed input.now).ending ≡ ending) }
+    ensures text { IfOk result (λ _. Appends (K.held sink.old) (K.held sink.new) (text (answers packed input.now))) }
+    ensures write_fault { IsErrOf result Stop.WriteFault → AppendsPart (K.held sink.old) (K.held sink.new) (text (answers packed input.now)) }
+    ensures no_memory { IsErrOf result Stop.NoMemory → AppendsPieces (K.held sink.old) (K.held sink.new) (answers packed input.now).pieces }
     ensures later { K.faults sink.old ≤ K.faults sink.new }
     ensures rose { IsErrOf result Stop.WriteFault → Rose (K.faults sink.old) (K.faults sink.new) (K.at_last sink.new) }
     ensures steady { result ≢ Err Stop.WriteFault → K.faults sink.new ≡ K.faults sink.old }
@@ -88,7 +87,7 @@ fn answer_body<T: Threads + Sync, G: Gate, K: Sink>(
 ) -> Result<Ending, Stop>
     requires ring { IsChoice header.ring }
     requires numbers { header.line + length header.body.now ≤ u64.MAX }
-    ensures { IsAnswering (body_answers (setting_of header.entry.names (characteristic_of header.entry.ring)) undefined header.entry.line (lines header.entry.body.now)) (K.held sink.old) (K.held sink.new) (K.faults sink.old) (K.faults sink.new) (K.at_last sink.new) result }
+    ensures { IsAnswering (body_answers (setting_of packed header.entry.names (characteristic_of header.entry.ring)) undefined header.entry.line (lines header.entry.body.now)) (K.held sink.old) (K.held sink.new) (K.faults sink.old) (K.faults sink.new) (K.at_last sink.new) result }
 {
     by_variables!(alloc, by, header, sink; 1, 2, 3, 4, 5, 6, 7)
 }
@@ -102,11 +101,11 @@ fn answer_in<T: Threads + Sync, G: Gate, R: CoeffRing, M: Monomial, K: Sink>(
     sink: &mut K,
 ) -> Result<Ending, Stop>
     requires ring { R.characteristic ring ≡ characteristic_of header.ring }
-    requires order { M.order ≡ Grlex }
+    requires order { M.order ≡ packed.order }
     requires vars { M.VARS ≡ length header.names }
-    requires limit { M.LIM ≡ limit_of (length header.names) }
+    requires limit { M.LIM ≡ packed.limit (length header.names) }
     requires numbers { header.line + length header.body.now ≤ u64.MAX }
-    ensures { IsAnswering (body_answers (setting_of header.entry.names (characteristic_of header.entry.ring)) undefined header.entry.line (lines header.entry.body.now)) (K.held sink.old) (K.held sink.new) (K.faults sink.old) (K.faults sink.new) (K.at_last sink.new) result }
+    ensures { IsAnswering (body_answers (setting_of packed header.entry.names (characteristic_of header.entry.ring)) undefined header.entry.line (lines header.entry.body.now)) (K.held sink.old) (K.held sink.new) (K.faults sink.old) (K.faults sink.new) (K.at_last sink.new) result }
 {
     let mut session = BodySession::<R, M>::new(alloc, ring, header.names);
     answer_lines(alloc, by, &mut session, header.line, header.body, sink)

@@ -22,6 +22,7 @@ mod writing;
 pub use memory::{MemorySink, MemorySource};
 pub use outside::{Failed, Sink, Source};
 pub use real::{RealSink, RealSource};
+pub use sdmp_words::{Settings, WordsFault, read_words};
 pub use shell::run;
 pub use status::Status;
 pub use steady::{CountSink, SteadySource};

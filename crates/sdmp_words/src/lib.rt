@@ -6,8 +6,6 @@ mod numbers;
 mod parsing;
 mod reading;
 mod settings;
-#[cfg(test)]
-mod tests;
 
 pub use fault::WordsFault;
 pub use reading::read_words;

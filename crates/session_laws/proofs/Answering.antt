@@ -5,11 +5,12 @@ use Rattle.calc_session.specs.Lines.{lines, effective}
 use Rattle.calc_session.specs.Header.{vars_of, ring_of, characteristic_of}
 use Rattle.calc_session.specs.Faults.{fault_line}
 use Rattle.calc_session.specs.Answers.{Answers, before, done, refused}
-use Rattle.calc_session.specs.Session.{Setting, setting_of, Defined, undefined, body_answers, ring_answers, vars_answers, answers}
+use Rattle.calc_session.specs.Session.{Monomials, Setting, setting_of, Defined, undefined, body_answers, ring_answers, vars_answers, answers}
 use Rattle.calc_session.specs.declared.ring.RingChoice.{RingChoice}
 use Rattle.calc_session.specs.declared.fault.LineFault.{LineFault}
 use Rattle.calc_session.specs.declared.fault.LineFault.TheVariants.{VarsExpected, RingExpected}
 use Rattle.calc_session.proofs.CommandLemmas.{body_more, body_refused}
+use Rattle.calc_session.proofs.SessionLemmas.{after_vars, after_ring, vars_none, vars_line, ring_none, ring_line}
 use Rattle.session_laws.specs.Answered.{IsRight, IsBody, IsFromRing, IsFromVars, IsAnswered}
 use Rattle.session_laws.specs.Laws.{AnswersAreAnswered}
 use Rattle.session_laws.proofs.Lines.{AllPolys, none_polys, right_is, wrong_is, right_polys, RightOrWrong, line_some}
@@ -37,62 +38,54 @@ body_some setting old number (line ∷ later) all = by (λ now o. body_some sett
     by rest (inr (fault, wrong)) = (refused (fault_line number fault), inr (fault, wrong, refl))
 
 -- ---- the header
-after_ring : List (List ℕ) → ℕ → List (List ℕ) → Result RingChoice LineFault → Answers
-after_ring variables number later r = elim r [
-  | Ok ring ↦ body_answers (setting_of variables (characteristic_of ring)) undefined (number + 1) later
-  | Err fault ↦ refused (fault_line number fault)
-]
+module _ (monomials : Monomials) where
+  ring_is : (variables : List (List ℕ)) (from : ℕ × List (List ℕ)) (A : Answers) → IsFromRing monomials variables from A → ring_answers monomials variables from ≡ A
+  ring_is variables (number, []) A h = ring_none monomials variables number ∙ sym h
+  ring_is variables (number, line ∷ later) A (inl (ring, e, body)) =
+      ring_line monomials variables number line later ∙ ap (after_ring monomials variables number later) e
+      ∙ body_is (setting_of monomials variables (characteristic_of ring)) undefined (number + 1) later A (none_polys (setting_of monomials variables (characteristic_of ring))) body
+  ring_is variables (number, line ∷ later) A (inr (fault, e, is)) =
+      ring_line monomials variables number line later ∙ ap (after_ring monomials variables number later) e ∙ sym is
 
-ring_is : (variables : List (List ℕ)) (from : ℕ × List (List ℕ)) (A : Answers) → IsFromRing variables from A → ring_answers variables from ≡ A
-unfolding ring_answers after_ring
-ring_is variables (number, []) A h = sym h
-ring_is variables (number, line ∷ later) A (inl (ring, e, body)) =
-    ap (after_ring variables number later) e ∙ body_is (setting_of variables (characteristic_of ring)) undefined (number + 1) later A (none_polys (setting_of variables (characteristic_of ring))) body
-ring_is variables (number, line ∷ later) A (inr (fault, e, is)) = ap (after_ring variables number later) e ∙ sym is
+  ring_some : (variables : List (List ℕ)) (from : ℕ × List (List ℕ)) → (A : Answers) × IsFromRing monomials variables from A
+  ring_some variables (number, []) = (refused (fault_line number RingExpected), refl)
+  ring_some variables (number, line ∷ later) = by (ring_of (words_of line)) refl
+    where
+      more : (ring : RingChoice) → ring_of (words_of line) ≡ Ok ring → (A : Answers) × IsBody (setting_of monomials variables (characteristic_of ring)) undefined (number + 1) later A
+          → (A : Answers) × IsFromRing monomials variables (number, line ∷ later) A
+      more ring e (A, body) = (A, inl (ring, e, body))
 
-ring_some : (variables : List (List ℕ)) (from : ℕ × List (List ℕ)) → (A : Answers) × IsFromRing variables from A
-ring_some variables (number, []) = (refused (fault_line number RingExpected), refl)
-ring_some variables (number, line ∷ later) = by (ring_of (words_of line)) refl
-  where
-    more : (ring : RingChoice) → ring_of (words_of line) ≡ Ok ring → (A : Answers) × IsBody (setting_of variables (characteristic_of ring)) undefined (number + 1) later A
-        → (A : Answers) × IsFromRing variables (number, line ∷ later) A
-    more ring e (A, body) = (A, inl (ring, e, body))
+      by : (r : Result RingChoice LineFault) → ring_of (words_of line) ≡ r → (A : Answers) × IsFromRing monomials variables (number, line ∷ later) A
+      by (Ok ring) e =
+          let setting : Setting = setting_of monomials variables (characteristic_of ring) in
+          more ring e (body_some setting undefined (number + 1) later (none_polys setting))
+      by (Err fault) e = (refused (fault_line number fault), inr (fault, e, refl))
 
-    by : (r : Result RingChoice LineFault) → ring_of (words_of line) ≡ r → (A : Answers) × IsFromRing variables (number, line ∷ later) A
-    by (Ok ring) e = more ring e (body_some (setting_of variables (characteristic_of ring)) undefined (number + 1) later (none_polys (setting_of variables (characteristic_of ring))))
-    by (Err fault) e = (refused (fault_line number fault), inr (fault, e, refl))
+  vars_is : (from : ℕ × List (List ℕ)) (A : Answers) → IsFromVars monomials from A → vars_answers monomials from ≡ A
+  vars_is (number, []) A h = vars_none monomials number ∙ sym h
+  vars_is (number, line ∷ later) A (inl (variables, e, ring)) =
+      vars_line monomials number line later ∙ ap (after_vars monomials number later) e ∙ ring_is variables (effective (number + 1) later) A ring
+  vars_is (number, line ∷ later) A (inr (fault, e, is)) = vars_line monomials number line later ∙ ap (after_vars monomials number later) e ∙ sym is
 
-after_vars : ℕ → List (List ℕ) → Result (List (List ℕ)) LineFault → Answers
-after_vars number later r = elim r [
-  | Ok variables ↦ ring_answers variables (effective (number + 1) later)
-  | Err fault ↦ refused (fault_line number fault)
-]
+  vars_some : (from : ℕ × List (List ℕ)) → (A : Answers) × IsFromVars monomials from A
+  vars_some (number, []) = (refused (fault_line number VarsExpected), refl)
+  vars_some (number, line ∷ later) = by (vars_of (words_of line)) refl
+    where
+      more : (variables : List (List ℕ)) → vars_of (words_of line) ≡ Ok variables → (A : Answers) × IsFromRing monomials variables (effective (number + 1) later) A
+          → (A : Answers) × IsFromVars monomials (number, line ∷ later) A
+      more variables e (A, ring) = (A, inl (variables, e, ring))
 
-vars_is : (from : ℕ × List (List ℕ)) (A : Answers) → IsFromVars from A → vars_answers from ≡ A
-unfolding vars_answers after_vars
-vars_is (number, []) A h = sym h
-vars_is (number, line ∷ later) A (inl (variables, e, ring)) = ap (after_vars number later) e ∙ ring_is variables (effective (number + 1) later) A ring
-vars_is (number, line ∷ later) A (inr (fault, e, is)) = ap (after_vars number later) e ∙ sym is
-
-vars_some : (from : ℕ × List (List ℕ)) → (A : Answers) × IsFromVars from A
-vars_some (number, []) = (refused (fault_line number VarsExpected), refl)
-vars_some (number, line ∷ later) = by (vars_of (words_of line)) refl
-  where
-    more : (variables : List (List ℕ)) → vars_of (words_of line) ≡ Ok variables → (A : Answers) × IsFromRing variables (effective (number + 1) later) A
-        → (A : Answers) × IsFromVars (number, line ∷ later) A
-    more variables e (A, ring) = (A, inl (variables, e, ring))
-
-    by : (r : Result (List (List ℕ)) LineFault) → vars_of (words_of line) ≡ r → (A : Answers) × IsFromVars (number, line ∷ later) A
-    by (Ok variables) e = more variables e (ring_some variables (effective (number + 1) later))
-    by (Err fault) e = (refused (fault_line number fault), inr (fault, e, refl))
+      by : (r : Result (List (List ℕ)) LineFault) → vars_of (words_of line) ≡ r → (A : Answers) × IsFromVars monomials (number, line ∷ later) A
+      by (Ok variables) e = more variables e (ring_some variables (effective (number + 1) later))
+      by (Err fault) e = (refused (fault_line number fault), inr (fault, e, refl))
 
 -- ---- the law
-answered_is : (bytes : List ℕ) (A : Answers) → IsAnswered bytes A → answers bytes ≡ A
+answered_is : (monomials : Monomials) (bytes : List ℕ) (A : Answers) → IsAnswered monomials bytes A → answers monomials bytes ≡ A
 unfolding answers
-answered_is bytes A h = vars_is (effective 1 (lines bytes)) A h
+answered_is monomials bytes A h = vars_is monomials (effective 1 (lines bytes)) A h
 
 pub answers_are_answered : AnswersAreAnswered
-answers_are_answered bytes A = (answered_is bytes A, λ e. by e (vars_some (effective 1 (lines bytes))))
+answers_are_answered monomials bytes A = (answered_is monomials bytes A, λ e. by e (vars_some monomials (effective 1 (lines bytes))))
   where
-    by : answers bytes ≡ A → (B : Answers) × IsAnswered bytes B → IsAnswered bytes A
-    by e (B, h) = subst (IsAnswered bytes) (sym (answered_is bytes B h) ∙ e) h
+    by : answers monomials bytes ≡ A → (B : Answers) × IsAnswered monomials bytes B → IsAnswered monomials bytes A
+    by e (B, h) = subst (IsAnswered monomials bytes) (sym (answered_is monomials bytes B h) ∙ e) h

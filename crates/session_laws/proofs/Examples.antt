@@ -1,7 +1,8 @@
 -- Sessions and their answers by the rules.
 use Rattle.std.proofs.Common.{◌≡◌, ℕ, List, [], ◌∷◌, codes, get_or, None, pos, inl, refl, sym, ◌∙◌, ap, arith}
 use Rattle.std.specs.Fmt.{digits}
-use Rattle.sdmp_laws.specs.Order.{degree, ◌⋅◌, alike, over, divides, is_below, tie_below, lex_below}
+use Rattle.packed_monomial.specs.Packing.{limit_of}
+use Rattle.sdmp_laws.specs.Order.{Grlex, degree, ◌⋅◌, alike, over, divides, is_below, tie_below, lex_below}
 use Rattle.sdmp_laws.specs.Poly.{Term, Over, AllBelow, Decreasing, Proper, norm, term_times, row, times, is_zero, keep, term_plus, put, terms, minus, negated, term_neg, lm, lc}
 use Rattle.sdmp_laws.specs.LongDivision.{quotient_list, turns_bound, turns_at, turn_at, turn_on, listed, factor, first_in_scope}
 use Rattle.sdmp_laws.specs.DivisionLaws.{rest_list}
@@ -17,25 +18,34 @@ use Rattle.calc_session.specs.Faults.{fault_words, fault_column}
 use Rattle.calc_session.specs.Header.{modulus_of}
 use Rattle.calc_session.specs.Body.{Define, Show, definition, command}
 use Rattle.calc_session.specs.Product.{product}
-use Rattle.calc_session.specs.Session.{Setting, setting_of, Defined, undefined, define, answers, vars_answers, ring_answers, body_answers, answer_to, reading_at, text_line, product_in, division_lines}
+use Rattle.calc_session.specs.Session.{Monomials, Setting, setting_of, Defined, undefined, define, answers as answers_in, vars_answers, ring_answers, body_answers, answer_to, reading_at, text_line, product_in, division_lines}
 use Rattle.calc_session.specs.declared.answers.Ending.TheVariants.{Done}
 use Rattle.calc_session.specs.declared.ring.RingChoice.TheVariants.{Integers}
-use Rattle.session_laws.specs.Answered.{IsSum, IsRead, IsAnswered}
+use Rattle.session_laws.specs.Answered.{IsSum, IsRead, IsAnswered as IsAnsweredIn}
 use Rattle.session_laws.proofs.Answering.{answers_are_answered}
+
+abbrev packed : Monomials
+packed = record { order = Grlex; limit = limit_of }
+
+abbrev answers : List ℕ → Answers
+answers bytes = answers_in packed bytes
+
+abbrev IsAnswered : List ℕ → Answers → Type 0
+IsAnswered bytes A = IsAnsweredIn packed bytes A
 
 -- the answers of a session without a fault
 abbrev all : List (List ℕ) → Answers
 all pieces = record { pieces = pieces; ending = Done }
 
 by_law : (bytes : List ℕ) (A : Answers) → answers bytes ≡ A → IsAnswered bytes A
-by_law bytes A e = (answers_are_answered bytes A).1 e
+by_law bytes A e = (answers_are_answered packed bytes A).1 e
 
 -- (x + 1)*(x - 1) = x^2 - 1
 abbrev difference : List ℕ
 difference = codes "vars x\nring Z\na = x+1\nb = x-1\nmul a b\n"
 
 difference_is : answers difference ≡ all (codes "x^2-1\n" ∷ [])
-unfolding answers digits cut_lines without_return words_of word_fault fault_behind effective vars_answers ring_answers definition command answer_to body_answers reading_at denotes class_of text_line product_in product times row term_times ◌⋅◌ norm terms put keep is_zero term_plus alike is_below tie_below lex_below degree
+unfolding answers_in digits cut_lines without_return words_of word_fault fault_behind effective vars_answers ring_answers definition command answer_to body_answers reading_at denotes class_of text_line product_in product times row term_times ◌⋅◌ norm terms put keep is_zero term_plus alike is_below tie_below lex_below degree
 difference_is = refl
 
 difference_answered : IsAnswered difference (all (codes "x^2-1\n" ∷ []))
@@ -46,7 +56,7 @@ abbrev square : List ℕ
 square = codes "vars x\nring mod 2\na = x+1\nmul a a\nshow a\n"
 
 square_is : answers square ≡ all (codes "x^2+1\n" ∷ codes "x+1\n" ∷ [])
-unfolding answers digits cut_lines without_return words_of word_fault fault_behind effective vars_answers ring_answers modulus_of definition command answer_to body_answers reading_at denotes class_of text_line product_in product times row term_times ◌⋅◌ norm terms put keep is_zero term_plus alike is_below tie_below lex_below degree
+unfolding answers_in digits cut_lines without_return words_of word_fault fault_behind effective vars_answers ring_answers modulus_of definition command answer_to body_answers reading_at denotes class_of text_line product_in product times row term_times ◌⋅◌ norm terms put keep is_zero term_plus alike is_below tie_below lex_below degree
 square_is = refl
 
 square_answered : IsAnswered square (all (codes "x^2+1\n" ∷ codes "x+1\n" ∷ []))
@@ -57,7 +67,7 @@ abbrev divisions : List ℕ
 divisions = codes "vars x\nring Z\na = x^2-1\nb = x-1\nc = x\ndiv a b\nrem a c\ndiv a c\n"
 
 divisions_are : answers divisions ≡ all (codes "x+1\n" ∷ codes "x\n-1\n" ∷ codes "none\n" ∷ [])
-unfolding answers digits cut_lines without_return words_of word_fault fault_behind effective vars_answers ring_answers definition command answer_to body_answers reading_at denotes class_of text_line division_lines outcome is_empty is_unit asks_unit looked_at passes_early is_long ending quotient_list turns_bound turns_at turn_at turn_on listed factor first_in_scope rest_list minus negated term_neg lm lc over divides times row term_times ◌⋅◌ norm terms put keep is_zero term_plus alike is_below tie_below lex_below degree
+unfolding answers_in digits cut_lines without_return words_of word_fault fault_behind effective vars_answers ring_answers definition command answer_to body_answers reading_at denotes class_of text_line division_lines outcome is_empty is_unit asks_unit looked_at passes_early is_long ending quotient_list turns_bound turns_at turn_at turn_on listed factor first_in_scope rest_list minus negated term_neg lm lc over divides times row term_times ◌⋅◌ norm terms put keep is_zero term_plus alike is_below tie_below lex_below degree
 divisions_are = refl
 
 divisions_answered : IsAnswered divisions (all (codes "x+1\n" ∷ codes "x\n-1\n" ∷ codes "none\n" ∷ []))
@@ -68,7 +78,7 @@ abbrev faulty : List ℕ
 faulty = codes "vars x\nring Z\na = x*2\nshow a\n"
 
 faulty_is : answers faulty ≡ refused (codes "line 3: syntax at 7\n")
-unfolding answers digits fault_words fault_column cut_lines without_return words_of word_fault fault_behind effective vars_answers ring_answers definition command answer_to body_answers reading_at denotes class_of
+unfolding answers_in digits fault_words fault_column cut_lines without_return words_of word_fault fault_behind effective vars_answers ring_answers definition command answer_to body_answers reading_at denotes class_of
 faulty_is = refl
 
 faulty_answered : IsAnswered faulty (refused (codes "line 3: syntax at 7\n"))
@@ -81,7 +91,7 @@ fourth_byte A = get_or (text A) 3 0
 other_sign : IsAnswered difference (all (codes "x^2+1\n" ∷ [])) → ⊥
 unfolding fourth_byte
 other_sign h =
-    let e : ◌≡◌ {A = ℕ} 45 43 = ap fourth_byte (sym difference_is ∙ (answers_are_answered difference (all (codes "x^2+1\n" ∷ []))).0 h) in
+    let e : ◌≡◌ {A = ℕ} 45 43 = ap fourth_byte (sym difference_is ∙ (answers_are_answered packed difference (all (codes "x^2+1\n" ∷ []))).0 h) in
     absurd (omega (arith, e))
 
 -- ---- a session by the rules alone
@@ -111,7 +121,7 @@ abbrev x : List Term
 x = record { monomial = 1 ∷ []; coefficient = pos 1 } ∷ []
 
 abbrev setting : Setting
-setting = setting_of (codes "x" ∷ []) 0
+setting = setting_of packed (codes "x" ∷ []) 0
 
 one_term : IsSum setting x x
 unfolding Over Decreasing AllBelow Proper

@@ -15,7 +15,7 @@ use Rattle.calc_session.specs.Header.{vars_of, ring_of, characteristic_of}
 use Rattle.calc_session.specs.Body.{Form, Skip, Define, Show, Mul, Div, Rem, form_of}
 use Rattle.calc_session.specs.Faults.{fault_line}
 use Rattle.calc_session.specs.Answers.{Answers, before, done, refused}
-use Rattle.calc_session.specs.Session.{Setting, setting_of, Defined, undefined, define, at_column, text_line, division_in}
+use Rattle.calc_session.specs.Session.{Monomials, Setting, setting_of, Defined, undefined, define, at_column, text_line, division_in}
 use Rattle.calc_session.specs.declared.ring.RingChoice.{RingChoice}
 use Rattle.calc_session.specs.declared.fault.LineFault.{LineFault}
 use Rattle.calc_session.specs.declared.fault.LineFault.TheVariants.{VarsExpected, RingExpected, UnknownName, DegreeBound, CoefficientBound, TermBound, ZeroDivisor, NotUnit}
@@ -170,19 +170,19 @@ IsBody setting old number (line ∷ later) answers =
     ⊎ ((fault : LineFault) × IsWrong setting old line fault × (answers ≡ refused (fault_line number fault)))
 
 -- from the line with the ring on, which has this number
-abbrev pub IsFromRing : List (List ℕ) → ℕ × List (List ℕ) → Answers → Type 0
-IsFromRing variables (number, []) answers = answers ≡ refused (fault_line number RingExpected)
-IsFromRing variables (number, line ∷ later) answers =
-    ((ring : RingChoice) × (ring_of (words_of line) ≡ Ok ring) × IsBody (setting_of variables (characteristic_of ring)) undefined (number + 1) later answers)
+abbrev pub IsFromRing : Monomials → List (List ℕ) → ℕ × List (List ℕ) → Answers → Type 0
+IsFromRing monomials variables (number, []) answers = answers ≡ refused (fault_line number RingExpected)
+IsFromRing monomials variables (number, line ∷ later) answers =
+    ((ring : RingChoice) × (ring_of (words_of line) ≡ Ok ring) × IsBody (setting_of monomials variables (characteristic_of ring)) undefined (number + 1) later answers)
     ⊎ ((fault : LineFault) × (ring_of (words_of line) ≡ Err fault) × (answers ≡ refused (fault_line number fault)))
 
 -- from the line with the variables on, which has this number
-abbrev pub IsFromVars : ℕ × List (List ℕ) → Answers → Type 0
-IsFromVars (number, []) answers = answers ≡ refused (fault_line number VarsExpected)
-IsFromVars (number, line ∷ later) answers =
-    ((variables : List (List ℕ)) × (vars_of (words_of line) ≡ Ok variables) × IsFromRing variables (effective (number + 1) later) answers)
+abbrev pub IsFromVars : Monomials → ℕ × List (List ℕ) → Answers → Type 0
+IsFromVars monomials (number, []) answers = answers ≡ refused (fault_line number VarsExpected)
+IsFromVars monomials (number, line ∷ later) answers =
+    ((variables : List (List ℕ)) × (vars_of (words_of line) ≡ Ok variables) × IsFromRing monomials variables (effective (number + 1) later) answers)
     ⊎ ((fault : LineFault) × (vars_of (words_of line) ≡ Err fault) × (answers ≡ refused (fault_line number fault)))
 
--- these are the answers to the bytes
-abbrev pub IsAnswered : List ℕ → Answers → Type 0
-IsAnswered bytes answers = IsFromVars (effective 1 (lines bytes)) answers
+-- these are the answers to the bytes, in such monomials
+abbrev pub IsAnswered : Monomials → List ℕ → Answers → Type 0
+IsAnswered monomials bytes answers = IsFromVars monomials (effective 1 (lines bytes)) answers

@@ -1,7 +1,8 @@
-pub mod Between
 pub mod Carrying
+pub mod EachMoment
 pub mod Examples
-pub mod Keeps
 pub mod Lists
+pub mod RuleStays
+pub mod Seats
 pub mod Shares
 pub mod Spelled

@@ -4,7 +4,8 @@ use mathlib.Core.List.{IsPrefix}
 use mathlib.Core.Option.{some, some-injective, some-ne-none}
 use lib.ListN.{get_elem?}
 use Rattle.std.proofs.lemmas.List.{set-append_right}
-use Rattle.term_ring.specs.Rule.{Comparable, place}
+use Rattle.term_ring.specs.Rule.{place, words_of_ring}
+use Rattle.term_ring.specs.Views.{Comparable}
 
 module _ {A : Type 0} where
   pub prefix_self : (xs : List A) → IsPrefix xs xs
@@ -74,10 +75,10 @@ same_list (x ∷ xs) [] e h = absurd (omega arith)
 same_list (x ∷ xs) (y ∷ ys) e h = let a : x ≡ y = h 0 (omega arith) in let b = same_list xs ys (omega arith) (λ k l. h (suc k) (omega arith)) in λ i. a i ∷ b i
 
 pub apart : (places x y j k : ℕ) → x % places ≢ y % places → j < 5 → k < 5 → place places x j ≢ place places y k
-apart places x y j k ne a b e = let m : ℕ = x % places in let n : ℕ = y % places in let e' : 2 + 5 * m + j ≡ 2 + 5 * n + k = e in let ne' : m ≢ n = ne in ne' (omega arith)
+apart places x y j k ne a b e = let m : ℕ = x % places in let n : ℕ = y % places in let e' : 32 + 5 * m + j ≡ 32 + 5 * n + k = e in let ne' : m ≢ n = ne in ne' (omega arith)
 
-pub place_below : (places x k : ℕ) → 0 < places → k < 5 → place places x k < 2 + 5 * places
+pub place_below : (places x k : ℕ) → 0 < places → k < 5 → place places x k < words_of_ring places
 place_below places x k a b = let m : ℕ = x % places in let h : m < places = omega arith in omega arith
 
-pub place_above : (places x k : ℕ) → 2 ≤ place places x k
-place_above places x k = let m : ℕ = x % places in let h : 2 ≤ 2 + 5 * m + k = omega arith in h
+pub place_above : (places x k : ℕ) → 32 ≤ place places x k
+place_above places x k = let m : ℕ = x % places in let h : 32 ≤ 32 + 5 * m + k = omega arith in h

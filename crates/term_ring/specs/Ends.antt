@@ -27,9 +27,9 @@ module _ {X Y Z : Type 0} where
   abbrev pub head_seen : Writer X Y Z → ℕ
   head_seen w = w.end.seat.me.0.seen
 
-  -- how often it loaded the head
-  abbrev pub head_loads : Writer X Y Z → ℕ
-  head_loads w = w.end.seat.me.0.loads
+  -- how often it loaded the head and found no room
+  abbrev pub full_looks : Writer X Y Z → ℕ
+  full_looks w = w.end.seat.me.0.looks
 
   -- the writer was made with the ring
   abbrev pub IsWriterOf : Ring X Y Z → Writer X Y Z → Type 0
@@ -43,9 +43,9 @@ module _ {X Y Z : Type 0} where
   abbrev pub tail_seen : Reader X Y Z → ℕ
   tail_seen r = r.end.seat.me.0.seen
 
-  -- how often it loaded the tail
-  abbrev pub tail_loads : Reader X Y Z → ℕ
-  tail_loads r = r.end.seat.me.0.loads
+  -- how often it loaded the tail and found no note
+  abbrev pub empty_looks : Reader X Y Z → ℕ
+  empty_looks r = r.end.seat.me.0.looks
 
   -- what the writer had sent when the two last met
   abbrev pub told_sent : Reader X Y Z → List (NoteOf Y Z)

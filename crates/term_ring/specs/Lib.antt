@@ -8,3 +8,4 @@ pub mod Scripts
 pub mod Sending
 pub mod Spelling
 pub mod Steps
+pub mod Views

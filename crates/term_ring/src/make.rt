@@ -2,12 +2,12 @@
 ghost use Rattle.std.specs.Prelude.{◌≡◌, ◌<◌, ◌≤◌, [], IfOk};
 ghost use Rattle.term_ring.specs.Plain.{modulus_of};
 ghost use Rattle.term_ring.specs.Scripts.{script_of};
-ghost use Rattle.term_ring.specs.Ends.{IsWriterOf, IsReaderOf, script_in, places_of, sent, taken, head_seen, head_loads, tail_seen, tail_loads, told_sent};
+ghost use Rattle.term_ring.specs.Ends.{IsWriterOf, IsReaderOf, script_in, places_of, sent, taken, head_seen, full_looks, tail_seen, empty_looks, told_sent};
 
-use crate::plays::{Key, Part};
-use crate::ring::{End, Reader, Ring, Writer};
+use crate::ring::{End, NOTES, Reader, Ring, Writer};
 use crate::scalars::Scalars;
 use crate::script::{Plan, Script};
+use crate::steps::{Key, Part};
 use atomic_table::Table;
 use coeff_ring::CoeffRing;
 use packed_monomial::Monomial;
@@ -19,20 +19,20 @@ impl<R: CoeffRing, M: Monomial> Ring<R, M> {
     /// A ring of so many places, at least 1, for the notes of the script, with its writer and its reader. Nothing is sent. The one refusal is want of memory.
     pub fn new(
         alloc: Global,
-        ring: R,
+        coefficients: R,
         places: u32,
         script: &Script<'_, R, M>,
     ) -> Result<(Ring<R, M>, Writer<R, M>, Reader<R, M>), NoMemory>
         requires places { 0 < places }
-        requires ring { R.characteristic ring ≡ modulus_of (script_of M.order M.VARS script.now) }
+        requires coefficients { R.characteristic coefficients ≡ modulus_of (script_of M.order M.VARS script.now) }
         ensures script { IfOk result (λ t. script_in t.0 ≡ script_of M.order M.VARS script.now) }
         ensures places { IfOk result (λ t. places_of t.0 ≡ places) }
         ensures writer { IfOk result (λ t. IsWriterOf t.0 t.1) }
         ensures reader { IfOk result (λ t. IsReaderOf t.0 t.2) }
         ensures sent { IfOk result (λ t. sent t.1 ≡ []) }
         ensures taken { IfOk result (λ t. taken t.2 ≡ []) }
-        ensures head { IfOk result (λ t. (head_seen t.1 ≡ 0) × (head_loads t.1 ≡ 0)) }
-        ensures tail { IfOk result (λ t. (tail_seen t.2 ≡ 0) × (tail_loads t.2 ≡ 0)) }
+        ensures head { IfOk result (λ t. (head_seen t.1 ≡ 0) × (full_looks t.1 ≡ 0)) }
+        ensures tail { IfOk result (λ t. (tail_seen t.2 ≡ 0) × (empty_looks t.2 ≡ 0)) }
         ensures told { IfOk result (λ t. told_sent t.2 ≡ []) }
     {
         let plan = Plan::of(script);
@@ -40,7 +40,7 @@ impl<R: CoeffRing, M: Monomial> Ring<R, M> {
             script: Snapshot::of(&plan),
             places: places as u64,
         };
-        let Ok(words) = Vec::from_elem(alloc, 0u64, 2 + 5 * places as usize) else {
+        let Ok(words) = Vec::from_elem(alloc, 0u64, NOTES + 5 * places as usize) else {
             return Err(NoMemory);
         };
         let Ok(made) = Table::of_words(alloc, words.as_slice(), &key) else {
@@ -55,6 +55,7 @@ impl<R: CoeffRing, M: Monomial> Ring<R, M> {
                 places: places as u64,
                 number: 0,
                 slot: 0,
+                seen: 0,
             },
         };
         let reader = Reader {
@@ -64,11 +65,12 @@ impl<R: CoeffRing, M: Monomial> Ring<R, M> {
                 places: places as u64,
                 number: 0,
                 slot: 0,
+                seen: 0,
             },
         };
         let ring = Ring {
             table,
-            scalars: Scalars::new(ring),
+            scalars: Scalars::new(coefficients),
         };
         Ok((ring, writer, reader))
     }

@@ -20,14 +20,14 @@ pub enum NoteOf<M, E> {
 pub type Note<R, M> = NoteOf<M, <R as CoeffRing>::E>;
 
 // the five words: the kind, the monomial, and the coefficient or the number known
-pub(crate) fn to_words<R: CoeffRing, M: Monomial>(ring: &R, note: Note<R, M>) -> [u64; 5]
-    requires { Belongs (R.belongs (R.characteristic ring.now)) note }
+pub(crate) fn to_words<R: CoeffRing, M: Monomial>(coefficients: &R, note: Note<R, M>) -> [u64; 5]
+    requires { Belongs (R.belongs (R.characteristic coefficients.now)) note }
     ensures { result ≡ words_of M.words R.words note }
 {
     match note {
         NoteOf::Term(t) => {
             let m = t.mono.to_words();
-            let c = ring.to_words(t.coef);
+            let c = coefficients.to_words(t.coef);
             [1, m[0], m[1], c[0], c[1]]
         }
         NoteOf::Mark { known, top: None } => [2, 0, 0, known as u64, 0],
@@ -43,14 +43,14 @@ pub(crate) fn to_words<R: CoeffRing, M: Monomial>(ring: &R, note: Note<R, M>) ->
 }
 
 // the note that the words spell, where they spell one
-pub(crate) fn from_words<R: CoeffRing, M: Monomial>(ring: &R, bits: &[u64; 5]) -> Note<R, M>
-    requires { (x : _) × Belongs (R.belongs (R.characteristic ring.now)) x × (bits.now ≡ words_of M.words R.words x) }
-    ensures { (x : _) → Belongs (R.belongs (R.characteristic ring.entry.now)) x → bits.entry.now ≡ words_of M.words R.words x → result ≡ x }
+pub(crate) fn from_words<R: CoeffRing, M: Monomial>(coefficients: &R, bits: &[u64; 5]) -> Note<R, M>
+    requires { (x : _) × Belongs (R.belongs (R.characteristic coefficients.now)) x × (bits.now ≡ words_of M.words R.words x) }
+    ensures { (x : _) → Belongs (R.belongs (R.characteristic coefficients.entry.now)) x → bits.entry.now ≡ words_of M.words R.words x → result ≡ x }
 {
     let kind = bits[0];
     if kind == 1 {
         let mono = M::from_words([bits[1], bits[2]]).unwrap();
-        let coef = ring.from_words([bits[3], bits[4]]).unwrap();
+        let coef = coefficients.from_words([bits[3], bits[4]]).unwrap();
         NoteOf::Term(TermOf { mono, coef })
     } else if kind == 2 {
         NoteOf::Mark {

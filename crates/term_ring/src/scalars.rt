@@ -7,7 +7,7 @@ use std::marker::Model;
 /// A ring of coefficients. Contracts see it as its modulus, 0 for the integers.
 #[derive(Drop)]
 pub struct Scalars<R: CoeffRing> {
-    ring: R,
+    coefficients: R,
 }
 
 impl<R: CoeffRing> Model for Scalars<R> {
@@ -15,21 +15,21 @@ impl<R: CoeffRing> Model for Scalars<R> {
 
     ghost Value = { ℕ };
 
-    ghost view = { λ s. R.characteristic s.ring };
+    ghost view = { λ s. R.characteristic s.coefficients };
 }
 
 impl<R: CoeffRing> Scalars<R> {
-    /// The ring that this value stands for.
-    pub fn new(ring: R) -> Scalars<R>
-        ensures { result ≡ R.characteristic ring }
+    /// The modulus of the ring of these coefficients.
+    pub fn new(coefficients: R) -> Scalars<R>
+        ensures { result ≡ R.characteristic coefficients }
     {
-        Scalars { ring }
+        Scalars { coefficients }
     }
 
-    /// A value of the ring.
-    pub fn ring(&self) -> R
+    /// A value of the ring of coefficients.
+    pub fn coefficients(&self) -> R
         ensures { R.characteristic result ≡ self.now }
     {
-        self.ring
+        self.coefficients
     }
 }

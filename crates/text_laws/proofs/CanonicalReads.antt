@@ -18,7 +18,8 @@ use Rattle.text_laws.specs.Summands.{vector_of, summands, verdict, written_terms
 use Rattle.text_laws.specs.Reading.{denotes, summed}
 use Rattle.text_laws.specs.Laws.{TextReads, ReadingIsCanonical}
 use Rattle.text_laws.specs.declared.TextFault.{TextFault}
-use Rattle.text_laws.proofs.Printed.{norm_cons, ArePrintable, printed_denotes}
+use Rattle.sdmp_laws.proofs.Parts.{norm_cons}
+use Rattle.text_laws.proofs.Printed.{ArePrintable, printed_denotes}
 use Rattle.text_laws.proofs.Zero.{zero_denotes}
 use Rattle.text_laws.proofs.Limits.{ok_is, err_ok, faultless, terms_over, degrees_within, norm_within}
 use Rattle.text_laws.proofs.Denoting.{denotes_is}

@@ -9,7 +9,8 @@ use Rattle.text_laws.specs.Canonical.{AreNames}
 use Rattle.text_laws.specs.Summands.{Written, Summand, same_name, unknown, written_degree, above_degree, size_of, sum_above, above_coefficient, exponent_at, vector_of, signed, written_terms, refused, verdict}
 use Rattle.text_laws.specs.declared.TextFault.{TextFault}
 use Rattle.text_laws.specs.declared.TextFault.TheVariants.{UnknownName, DegreeBound, CoefficientBound}
-use Rattle.text_laws.proofs.Printed.{same_is, skip_vector, norm_cons}
+use Rattle.sdmp_laws.proofs.Parts.{norm_cons}
+use Rattle.text_laws.proofs.Printed.{same_is, skip_vector}
 
 -- ---- no fault
 -- a text without a fault: what is refused nowhere

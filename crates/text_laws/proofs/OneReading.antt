@@ -4,7 +4,7 @@ use Rattle.std.proofs.lemmas.Bool.{cases_lt}
 use Rattle.sdmp_laws.specs.Poly.{Term}
 use Rattle.text_laws.specs.Grammar.{Tree, Spells}
 use Rattle.text_laws.specs.Summands.{Summand, verdict, refused, summands, unknown, above_degree, above_coefficient}
-use Rattle.text_laws.specs.Denotes.{IsSyntaxFault, IsDenoted}
+use Rattle.text_laws.specs.Denotes.{IsSyntaxFault, HasVerdict, IsDenoted}
 use Rattle.text_laws.specs.declared.TextFault.{TextFault}
 use Rattle.text_laws.specs.declared.TextFault.TheVariants.{Syntax, UnknownName, DegreeBound, CoefficientBound, NoMemory}
 use Rattle.text_laws.proofs.OneTree.{one_tree}
@@ -36,11 +36,8 @@ pub no_syntax : (names : List (List ℕ)) (p lim : ℕ) (ss : List Summand) (at 
 no_syntax names p lim ss at e =
     refused_other (λ k. UnknownName k) (unknown names ss) _ at (λ k f. cc) (λ e. refused_other (λ k. DegreeBound k) (above_degree lim ss) _ at (λ k f. cc) (λ e. refused_other (λ k. CoefficientBound k) (above_coefficient p ss) _ at (λ k f. cc) (λ e. cc) e) e) e
 
-abbrev Read : List (List ℕ) → ℕ → ℕ → List ℕ → Result (List Term) TextFault → Type 0
-Read names p lim bytes r = (t : Tree) × Spells t bytes × (verdict names p lim (summands t) ≡ r)
-
 -- a syntax fault, or a verdict on a tree
-split : (names : List (List ℕ)) (p lim : ℕ) (bytes : List ℕ) (r : Result (List Term) TextFault) → IsDenoted names p lim bytes r → ((at : ℕ) × (r ≡ Err (Syntax at)) × IsSyntaxFault bytes at) ⊎ Read names p lim bytes r
+split : (names : List (List ℕ)) (p lim : ℕ) (bytes : List ℕ) (r : Result (List Term) TextFault) → IsDenoted names p lim bytes r → ((at : ℕ) × (r ≡ Err (Syntax at)) × IsSyntaxFault bytes at) ⊎ HasVerdict names p lim bytes r
 split names p lim bytes (Ok F) d = inr d
 split names p lim bytes (Err (Syntax at)) d = inl (at, refl, d)
 split names p lim bytes (Err (UnknownName at)) d = inr d
@@ -51,7 +48,7 @@ split names p lim bytes (Err NoMemory) d = inr d
 pub one_reading : (names : List (List ℕ)) (p lim : ℕ) (bytes : List ℕ) (r s : Result (List Term) TextFault) → IsDenoted names p lim bytes r → IsDenoted names p lim bytes s → r ≡ s
 one_reading names p lim bytes r s d e = by (split names p lim bytes r d) (split names p lim bytes s e)
   where
-    by : ((at : ℕ) × (r ≡ Err (Syntax at)) × IsSyntaxFault bytes at) ⊎ Read names p lim bytes r → ((at : ℕ) × (s ≡ Err (Syntax at)) × IsSyntaxFault bytes at) ⊎ Read names p lim bytes s → r ≡ s
+    by : ((at : ℕ) × (r ≡ Err (Syntax at)) × IsSyntaxFault bytes at) ⊎ HasVerdict names p lim bytes r → ((at : ℕ) × (s ≡ Err (Syntax at)) × IsSyntaxFault bytes at) ⊎ HasVerdict names p lim bytes s → r ≡ s
     by (inl (j, f, a)) (inl (k, g, b)) = f ∙ ap (λ i. Err (Syntax i)) (one_place bytes j k a b) ∙ sym g
     by (inl (j, f, a)) (inr (t, x, v)) = absurd (a.no_text (t, x))
     by (inr (t, x, v)) (inl (j, f, a)) = absurd (a.no_text (t, x))

@@ -6,14 +6,14 @@ use Rattle.std.specs.Str.Parse.{digits_value, AllDigits}
 use Rattle.std.proofs.lemmas.Fmt.{decimal_is_IsNumeral_wide}
 use Rattle.std.proofs.lemmas.Str.Parse.{digit_from_value}
 use Rattle.std.proofs.lemmas.Bool.Decides.{eqb_tells}
-use Rattle.std.proofs.lemmas.Bool.{le-ltb}
+use Rattle.std.proofs.lemmas.Bool.{le-ltb, and_parts}
 use Rattle.text_laws.specs.Bytes.{class_of}
 use Rattle.text_laws.specs.Grammar.{Mark, Word, Raised, Power, Factor, Numeral, Symbol, Product, Signed, Tree, AreDigits, IsMark, IsNumber, IsName, IsRaised, IsPower, AreFactors, IsProduct, AreSigned, IsFirstSign, spell_mark, spell_word, spell_raised, spell_power, spell_factors, spell_product, spell_signed, spell_sign, Spells}
 use Rattle.text_laws.specs.Summands.{Written, Summand, number_of, exponent_of, power_at, factors_at, product_at, is_minus, signed_at, summands, same_name, is_known, unknown_in, unknown, written_degree, above_degree, size_of, sum_above, one_above, above_coefficient, exponent_at, vector_of, signed, written_term, written_terms, refused, or_else}
 use Rattle.sdmp_laws.specs.Limits.{greatest_norm}
 use Rattle.text_laws.specs.Denotes.{IsDenoted}
 use Rattle.text_laws.specs.Canonical.{sign_text, size_text, power_text, power_texts, starred, behind_stars, later_text, text, IsNameText, NotIn, AreNames}
-use Rattle.std.proofs.lemmas.List.Sums.{sum_by-cons}
+use Rattle.sdmp_laws.proofs.Parts.{norm_cons}
 use Rattle.text_laws.specs.declared.TextFault.TheVariants.{UnknownName, DegreeBound, CoefficientBound}
 use Rattle.text_laws.specs.declared.ByteClass.TheVariants.{Digit, Sign, Star, Caret}
 use Rattle.sdmp_laws.specs.Order.{degree}
@@ -244,16 +244,12 @@ same_self (x ∷ n) = ap (λ b. b && same_name n n) (eqb_self x) ∙ same_self n
     eqb_self : (x : ℕ) → eqb x x ≡ true
     eqb_self x = eq-eqb x x refl
 
-and_true : (a b : Bool) → (a && b) ≡ true → (a ≡ true) × (b ≡ true)
-and_true true b h = (refl, h)
-and_true false b h = absurd (true≢false (sym h))
-
 pub same_is : (n m : List ℕ) → same_name n m ≡ true → n ≡ m
 same_is [] [] h = refl
 same_is [] (y ∷ m) h = absurd (true≢false (sym h))
 same_is (x ∷ n) [] h = absurd (true≢false (sym h))
 same_is (x ∷ n) (y ∷ m) h =
-    let k = and_true (eqb x y) (same_name n m) h in
+    let k = and_parts (eqb x y) (same_name n m) h in
     let e : x ≡ y = eqb_is x y k.0 in
     let t = same_is n m k.1 in
     (λ i. e i ∷ t i)
@@ -371,10 +367,10 @@ abbrev product_for : List (List ℕ) → Term → Product
 product_for names t = product_of (omit (unsigned_abs t.coefficient) (degree t.monomial)) (unsigned_abs t.coefficient) (powers_of names t.monomial)
 
 omit_one : (s d : ℕ) → omit s d ≡ true → s ≡ 1
-omit_one s d h = eqb_is s 1 (and_true (eqb s 1) (not (eqb d 0)) h).0
+omit_one s d h = eqb_is s 1 (and_parts (eqb s 1) (not (eqb d 0)) h).0
 
 omit_some : (s d : ℕ) → omit s d ≡ true → d ≡ 0 → ⊥
-omit_some s d h e = true≢false (sym (and_true (eqb s 1) (not (eqb d 0)) h).1 ∙ ap not (eq-eqb d 0 e))
+omit_some s d h e = true≢false (sym (and_parts (eqb s 1) (not (eqb d 0)) h).1 ∙ ap not (eq-eqb d 0 e))
 
 size_text_is : (s d : ℕ) → cond (omit s d) [] (decimal s ∷ []) ≡ size_text s d
 size_text_is s d = refl
@@ -555,10 +551,6 @@ no_big names lim [] [] h = refl
 no_big names lim [] (t ∷ ts) h = absurd h
 no_big names lim (s ∷ ss) [] h = absurd h
 no_big names lim (s ∷ ss) (t ∷ ts) h = ap (λ b. cond b (Some s.at) (one_above ss)) (not_above greatest_norm (size_of s.number) (omega (arith, h.0.size, h.0.small))) ∙ no_big names lim ss ts h.1
-
-pub norm_cons : (t : Term) (ts : List Term) → norm (t ∷ ts) ≡ unsigned_abs t.coefficient + norm ts
-unfolding norm
-norm_cons t ts = sum_by-cons (λ (u : Term). unsigned_abs u.coefficient) t ts
 
 no_sum : (names : List (List ℕ)) (lim : ℕ) (ss : List Summand) (ts : List Term) (sum : ℕ) → AllRead names lim ss ts → sum + norm ts ≤ greatest_norm → sum_above sum ss ≡ None
 no_sum names lim [] [] sum h g = refl

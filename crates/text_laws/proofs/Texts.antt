@@ -227,7 +227,8 @@ dead_stays : (bs : List ℕ) → run states.Dead bs ≡ states.Dead
 dead_stays [] = refl
 dead_stays (b ∷ bs) = dead_stays bs
 
-live_before : (s : State) (bs : List ℕ) → is_whole (run s bs) ≡ true → is_live s ≡ true
+-- what may still become a text is alive
+pub live_before : (s : State) (bs : List ℕ) → is_whole (run s bs) ≡ true → is_live s ≡ true
 live_before states.Dead bs h = absurd (true≢false (sym (sym (ap is_whole (dead_stays bs)) ∙ h)))
 live_before states.Start bs h = refl
 live_before states.Term bs h = refl

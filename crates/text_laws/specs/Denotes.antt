@@ -12,7 +12,11 @@ pub record IsSyntaxFault (bytes : List ℕ) (at : ℕ) : Type 0 where
   pub before : (k : ℕ) → k < at → BeginsText (take (suc k) bytes)
   pub there : ((at < length bytes) × (BeginsText (take (suc at) bytes) → ⊥)) ⊎ ((at ≡ length bytes) × BeginsText bytes)
 
--- the bytes have this reading: the sum of these terms, or this fault
+-- the bytes are spelled by a tree that has this verdict
+abbrev pub HasVerdict : List (List ℕ) → ℕ → ℕ → List ℕ → Result (List Term) TextFault → Type 0
+HasVerdict names p lim bytes r = (t : Tree) × Spells t bytes × (verdict names p lim (summands t) ≡ r)
+
+-- the bytes denote the sum of these terms, or this fault
 abbrev pub IsDenoted : List (List ℕ) → ℕ → ℕ → List ℕ → Result (List Term) TextFault → Type 0
 IsDenoted names p lim bytes (Err (Syntax at)) = IsSyntaxFault bytes at
-IsDenoted names p lim bytes r = (t : Tree) × Spells t bytes × (verdict names p lim (summands t) ≡ r)
+IsDenoted names p lim bytes r = HasVerdict names p lim bytes r

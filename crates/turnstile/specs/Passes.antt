@@ -1,5 +1,5 @@
 -- What a clause says of a turnstile and of a pass.
-use Rattle.std.specs.Prelude.{◌≡◌, ℕ, true, false, [], ◌∷◌, Some, None}
+use Rattle.std.specs.Prelude.{◌≡◌, ℕ, true, false, [], ◌∷◌, Option, Some, None}
 use Rattle.atomic_table.specs.Seated.{TableId}
 use Rattle.turnstile.specs.Own.{out_of}
 use Rattle.turnstile.specs.declared.turn.Pass.{Pass}
@@ -38,3 +38,21 @@ module _ {T : Type 0} where
   -- how many of its tries found the turnstile held
   abbrev pub busy : Pass T → ℕ
   busy p = p.seat.me.0.busy
+
+module _ {T : Type 0} where
+  -- there is a pass, of this turnstile and outside
+  abbrev pub HasPass : Turnstile T → Option (Pass T) → Type 0
+  HasPass t o = (p : Pass T) × (o ≡ Some p) × IsPassOf t p × IsOutside p
+
+  -- how often the pass came in, and how many of its tries found the turnstile held
+  abbrev pub entries_of : Option (Pass T) → ℕ
+  entries_of None = 0
+  entries_of (Some p) = entries p
+
+  abbrev pub busy_of : Option (Pass T) → ℕ
+  busy_of None = 0
+  busy_of (Some p) = busy p
+
+-- how often at least a worker that finds the turnstile held each time tries it before it gives up
+abbrev pub patience : ℕ
+patience = 64

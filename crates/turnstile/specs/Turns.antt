@@ -1,13 +1,13 @@
 -- The turnstile as plain data, and what each step does to it.
 use Rattle.std.specs.Prelude.{◌≡◌, ◌≢◌, ℕ, ◌+◌, ◌-◌, ◌≤◌, Bool, true, false, cond, List, [], ◌∷◌, Option, Some, None, slice_index, length}
-use mathlib.Core.Option.{some, Option as Maybe}
+use mathlib.Core.Option.{some}
 use lib.ListN.{get_elem?}
 use Rattle.atomic_table.specs.Table.{State, Me}
 pub use Rattle.turnstile.specs.declared.view.View.{View}
 
--- the second value has the name of the first, and follows it
-abbrev pub Stays : {T N R : Type 0} → (T → N) → (T → R) → (R → R → Type 0) → T → T → Type 0
-Stays name reached follows made v = (name v ≡ name made) × follows (reached made) (reached v)
+-- the second value has the name of the first, follows it, and is whole
+abbrev pub Stays : {T N R : Type 0} → (T → N) → (T → R) → (R → R → Type 0) → (T → Type 0) → T → T → Type 0
+Stays name reached follows whole made v = (name v ≡ name made) × follows (reached made) (reached v) × whole v
 
 module _ {T : Type 0} where
   -- how many of the views meet a test
@@ -63,9 +63,13 @@ module _ {T : Type 0} where
   abbrev pub Sound : List (View T) → Type 0
   Sound vs = (i : ℕ) (u : View T) → get_elem? vs i ≡ some u → u.inside ≡ true → u.is_pass ≡ true
 
-  -- while slot 0 is at home its value is there and fits
-  abbrev pub AtHome : (T → Type 0) → List (Maybe (Option T)) → Type 0
-  AtHome fits homes = (value : T) × (get_elem? homes 0 ≡ some (some (Some value))) × fits value
+  -- the flag is 0
+  abbrev pub IsFree : State (Option T) (View T) → Type 0
+  IsFree s = slice_index s.words 0 ≡ 0
+
+  -- slot 0 is at home, and the value in it fits
+  abbrev pub ValueAtHome : (T → Type 0) → State (Option T) (View T) → Type 0
+  ValueAtHome fits s = (value : T) × (get_elem? s.homes 0 ≡ some (some (Some value))) × fits value
 
   -- the flag is the number of passes inside, at most one; while it is 0 the value is at home
   abbrev pub Kept : (T → Type 0) → State (Option T) (View T) → Type 0
@@ -73,7 +77,7 @@ module _ {T : Type 0} where
       (length s.words ≡ 1)
       × (slice_index s.words 0 ≤ 1)
       × (insides s.views ≡ slice_index s.words 0)
-      × (slice_index s.words 0 ≡ 0 → AtHome fits s.homes)
+      × (IsFree s → ValueAtHome fits s)
       × Owned s.views
       × Sound s.views
 

@@ -3,18 +3,21 @@
 //! The shared object is a table of one word and one slot. Word 0 is the flag, 0 free and 1 held. Slot 0 holds the value, or nothing while a pass is inside. No call waits: a try that finds the flag held answers `Busy`.
 #![tactic(auto)]
 
-mod calls;
 mod gate;
 mod laws;
 mod named;
 mod own;
-mod plays;
+mod passing;
+mod patience;
+mod steps;
 mod turn;
 mod view;
 
 pub use gate::{Gate, OpenGate};
-pub use laws::one_inside;
+pub use laws::{one_inside, value_at_home};
 pub use named::Named;
+pub use passing::PATIENCE;
+pub use patience::{MOST_TURNS, Patience, rest};
 pub use turn::{Busy, Pass, Refused, Turnstile};
 
 #[cfg(test)]

@@ -5,7 +5,7 @@ ghost use Rattle.turnstile.specs.Own.{IsOwn};
 
 use crate::named::Named;
 use crate::own::Own;
-use crate::plays::Turns;
+use crate::steps::Turns;
 use crate::view::View;
 use atomic_table::{Seat, Table};
 use std::alloc::Global;
@@ -23,7 +23,7 @@ pub struct Refused<T> {
 
 /// A value that one pass at a time takes out and puts back, shared by reference among threads.
 ///
-/// Whatever comes out has the name of the value with which the turnstile was made, and follows it (`Named`).
+/// Whatever comes out has the name of the value with which the turnstile was made, follows it, and is whole (`Named`).
 #[derive(Drop)]
 pub struct Turnstile<T: Named> {
     pub(crate) table: Table<Option<T>, View<T>, Snapshot<T>, Turns<T>, Global>,

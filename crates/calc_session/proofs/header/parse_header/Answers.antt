@@ -6,17 +6,17 @@ use Rattle.calc_session.proofs.HeaderLemmas.{ring_choice}
 use Rattle.calc_session.proofs.header.parse_header.Goals as goal
 
 pub returns-in-Err-clause-refused : goal.returns-in-Err-clause-refused
-returns-in-Err-clause-refused c = λ other.
+returns-in-Err-clause-refused c = λ other monomials.
     let first : effective 1 (lines c.args.bytes.now) ≡ (c.effective_line-first.result.number, c.in-Some.line.now ∷ lines c.effective_line-first.result.rest.now) = search rules in
-    header_vars c.args.bytes.now c.effective_line-first.result.number c.in-Some.line.now (lines c.effective_line-first.result.rest.now) c.in-Err.fault first
+    header_vars monomials c.args.bytes.now c.effective_line-first.result.number c.in-Some.line.now (lines c.effective_line-first.result.rest.now) c.in-Err.fault first
     (c.in-Err.ensures.refused other)
 
 pub returns-in-Err-parse_ring-clause-refused : goal.returns-in-Err-parse_ring-clause-refused
-returns-in-Err-parse_ring-clause-refused c = λ other.
+returns-in-Err-parse_ring-clause-refused c = λ other monomials.
     let first : effective 1 (lines c.args.bytes.now) ≡ (c.effective_line-first.result.number, c.in-Some.line.now ∷ lines c.effective_line-first.result.rest.now) = search rules in
     let second : effective (c.effective_line-first.result.number + 1) (lines c.effective_line-first.result.rest.now)
     ≡ (c.effective_line-second.result.number, c.in-Some-line.line.now ∷ lines c.effective_line-second.result.rest.now) = search rules in
-    header_ring c.args.bytes.now c.effective_line-first.result.number c.effective_line-second.result.number c.in-Some.line.now c.in-Some-line.line.now
+    header_ring monomials c.args.bytes.now c.effective_line-first.result.number c.effective_line-second.result.number c.in-Some.line.now c.in-Some-line.line.now
     (lines c.effective_line-first.result.rest.now) (lines c.effective_line-second.result.rest.now) c.in-Ok.names c.in-Err-parse_ring.fault first c.in-Ok.ensures.names second
     c.in-Err-parse_ring.ensures
 

@@ -3,7 +3,8 @@ use Rattle.std.proofs.lemmas.List.Sorted.{IsPermutation-trans, length_permutatio
 use Rattle.std.proofs.lemmas.List.{length-set}
 use Rattle.std_alloc.proofs.HeapSift as sifts
 use Rattle.std.proofs.lemmas.List.Sorted.{IsPermutation-refl}
-use Rattle.chained_heap.proofs.Heaps.{node_total, empty_list, fallen_begins, fallen_steps, fallen_ends}
+use Rattle.std.proofs.lemmas.List.{nil_from_length}
+use Rattle.chained_heap.proofs.Heaps.{node_total, fallen_begins, fallen_steps, fallen_ends}
 use Rattle.std.specs.List.Sorted.{IsPermutation}
 use Rattle.chained_heap.specs.Order.{node_cmp}
 use Rattle.chained_heap.proofs.Walks.{pow_below_back}
@@ -43,7 +44,7 @@ returns-clause-compares g c = λ l b.
     omega (arith, i.2.2)
 
 pub returns-then-len-eq0-clause-permutation : goal.returns-then-len-eq0-clause-permutation
-returns-then-len-eq0-clause-permutation g c = subst (λ xs. IsPermutation (set xs 0 c.args.x) xs) (sym (empty_list c.args.nodes.now c.if-len-eq0.true)) (IsPermutation-refl [])
+returns-then-len-eq0-clause-permutation g c = subst (λ xs. IsPermutation (set xs 0 c.args.x) xs) (sym (nil_from_length c.args.nodes.now c.if-len-eq0.true)) (IsPermutation-refl [])
 
 pub returns-then-len-eq0-clause-mends : goal.returns-then-len-eq0-clause-mends
 returns-then-len-eq0-clause-mends g c =

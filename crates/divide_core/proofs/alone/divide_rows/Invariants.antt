@@ -3,7 +3,8 @@ use Rattle.sdmp_laws.specs.Order.{degree}
 use Rattle.sdmp_laws.specs.Poly.{norm, every}
 use Rattle.sdmp_laws.specs.LongDivision.{quotient_list}
 use Rattle.canonical_terms.specs.View.{sum_of}
-use Rattle.divide_core.specs.Dividing.{Dividing, division_of}
+use Rattle.divide_core.specs.Dividing.{Dividing}
+use Rattle.division_laws.specs.Outcome.{division_of}
 use Rattle.divide_core.proofs.alone.divide_rows.Given as goal
 
 abbrev pub invariant-loop-term : goal.invariant-loop-term

@@ -4,8 +4,8 @@ use Rattle.turnstile.specs.Passes.{IsPassOf, IsOutside, entries, busy}
 use Rattle.term_ring.specs.Sending.{Sends, ArePushed}
 use Rattle.mul_workers.proofs.worker.work.Given as goal
 
-abbrev pub invariant-loop-pass : goal.invariant-loop-pass
-invariant-loop-pass g l = record {
+abbrev pub invariant-loop-sender : goal.invariant-loop-sender
+invariant-loop-sender g l = record {
   pass : IsPassOf l.turnstile l.pass × IsOutside l.pass;
   entries : entries l.initial.pass ≤ entries l.pass;
   busy : busy l.initial.pass ≤ busy l.pass;
@@ -13,5 +13,5 @@ invariant-loop-pass g l = record {
   pushed : ArePushed l.initial.sender l.sender;
 }
 
-abbrev pub decreases-loop-pass : goal.decreases-loop-pass
-decreases-loop-pass g l = length (script_list l.sender.ring.script) + 1 - length l.sender.sent
+abbrev pub decreases-loop-sender : goal.decreases-loop-sender
+decreases-loop-sender g l = length (script_list l.sender.ring.script) + 1 - length l.sender.sent

@@ -1,8 +1,8 @@
-use Rattle.std.proofs.Common.{Vec, Global}
+use Rattle.std.proofs.Common.{Vec, Global, Err, ap, ◌∙◌, arith}
 use Rattle.std.proofs.lemmas.Result.{err_from_is_err_and}
 use Rattle.canonical_terms.specs.View.{sum_of}
 use Rattle.canonical_terms.specs.declared.term.TermOf.{TermOf}
-use Rattle.poly_text.proofs.Reduced.{syntax_fault_read, fault_read, terms_read}
+use Rattle.poly_text.proofs.Reduced.{syntax_fault_read, fault_read, terms_read, norm_read}
 use Rattle.poly_text.proofs.read.read_poly.Goals as goal
 
 pub returns-in-Some-clause-fault : goal.returns-in-Some-clause-fault
@@ -20,3 +20,10 @@ pub returns-in-Ok-clause-terms : goal.returns-in-Ok-clause-terms
 returns-in-Ok-clause-terms g c =
     terms_read (λ v. sum_of g.M.Monomial.vector g.R.CoeffRing.value v.items) g.M.Monomial.order c.args.names.now (g.R.CoeffRing.characteristic c.args.ring) g.M.Monomial.LIM c.args.bytes.now c.syntax_fault.result c.in_ok-terms.terms _
     c.syntax_fault.ensures c.in_default.is c.in_ok-terms.ensures.reads c.in-Ok.ensures.terms
+
+pub unreachable-requires : goal.unreachable-requires
+unreachable-requires g c =
+    let bound = c.from_terms.ensures.bound (c.in-Err-CoefficientBound.is ∙ ap (λ f. Err f) c.in-Err-CoefficientBound.field-0-is) in
+    let within = norm_read {X = Vec (TermOf g.row.M.Denot g.row.R-E.Denot) Global} (λ v. sum_of g.M.Monomial.vector g.R.CoeffRing.value v.items) c.args.names.now (g.R.CoeffRing.characteristic c.args.ring) g.M.Monomial.LIM c.args.bytes.now c.syntax_fault.result c.in_ok-terms.terms
+    c.syntax_fault.ensures c.in_default.is c.in_ok-terms.ensures.reads bound.0 in
+    omega (arith, bound.1, within)

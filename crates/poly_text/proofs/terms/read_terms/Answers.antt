@@ -1,4 +1,4 @@
-use Rattle.std.proofs.Common.{◌≤◌, ◌<◌, length, cond, [], Some, None, ap, sym, subst, ◌∙◌, arith}
+use Rattle.std.proofs.Common.{◌≤◌, ◌<◌, length, All, cond, [], Some, None, ap, sym, subst, ◌∙◌, arith}
 use Rattle.std.proofs.lemmas.Result.{err_from_is_err_and}
 use Rattle.std.proofs.lemmas.List.Elements.{All-nil, All-same}
 use Rattle.sdmp_laws.specs.Order.{degree}
@@ -7,7 +7,7 @@ use Rattle.text_laws.specs.Grammar.{spell_signed}
 use Rattle.text_laws.specs.Summands.{summands, or_else}
 use Rattle.text_laws.proofs.TreeTokens.{signed_here}
 use Rattle.poly_text.proofs.Pushing.{monos_pushed, coefs_pushed}
-use Rattle.poly_text.proofs.TermLoop.{TermsLeft, begins, unknown_at, none_is, step, next_signed, ended, fault_unknown, fault_degree, fault_coefficient, no_fault}
+use Rattle.poly_text.proofs.TermLoop.{TermsLeft, Ended, begins, unknown_at, none_is, step, next_signed, ended, fault_unknown, judged, within_too}
 use Rattle.poly_text.proofs.terms.read_terms.Goals as goal
 
 pub loop-term-init : goal.loop-term-init
@@ -70,48 +70,6 @@ loop-term-preserved g c = record {
       (omega (arith, c.if-term-bytes.false, c.in-Ok.ensures.bound.1)) c.behind_sign-start.ensures.bound c.behind_sign-start.ensures.place c.behind_sign-start.ensures.sign;
 }
 
-pub returns-in-Some-clause-reads : goal.returns-in-Some-clause-reads
-returns-in-Some-clause-reads g c = λ t s.
-    let V = g.M.Monomial.vector in
-    let A = g.R.CoeffRing.value in
-    let p = g.R.CoeffRing.characteristic c.args.ring in
-    let lim = g.M.Monomial.LIM in
-    let names = c.args.names.now in
-    let bytes = c.args.bytes.now in
-    let all = summands t in
-    let l = c.loop-term.invariant.left t s in
-    let a = c.in-Ok.ensures.reads l.product (spell_signed l.others) l.found.total l.is_product (signed_here l.others l.are_signed) l.spelled l.found.total_is in
-    let k = step V A names bytes p lim all c.loop-term.start.at c.loop-term.start.negative c.loop-term.sum c.loop-term.degree_at c.loop-term.coefficient_at c.first_of-degree_at.result c.first_of-coefficient_at.result
-    c.loop-term.terms.items c.push_term.new.terms.items c.in-Ok.term l c.loop-term.invariant.within c.in-Ok.ensures.bound.0 c.in-Ok.ensures.bound.1 a
-    (c.first_of-degree_at.ensures ∙ ap (λ b. or_else c.loop-term.degree_at (cond b (Some c.loop-term.start.at) None)) (none_is c.in-Ok.term.mono c.is_none.result c.is_none.ensures))
-    (c.first_of-coefficient_at.ensures ∙ ap (λ b. or_else c.loop-term.coefficient_at (cond b (Some c.loop-term.start.at) None)) (none_is c.in-Ok.term.coef c.is_none-in-loop-term.result c.is_none-in-loop-term.ensures)) c.in_ok-push_term.ensures.pushed in
-    let e = ended names bytes p lim t c.in-Ok.term.next c.in-Ok.term.sum c.first_of-degree_at.result c.first_of-coefficient_at.result (sum_of V A c.push_term.new.terms.items) k (omega (arith, c.if-term-bytes.true)) in
-    fault_degree names p lim c.in-Some.at t c.first_of-degree_at.result c.first_of-coefficient_at.result _ c.in-Some.is e
-
-pub returns-in-Some-coefficient_at-clause-reads : goal.returns-in-Some-coefficient_at-clause-reads
-returns-in-Some-coefficient_at-clause-reads g c = λ t s.
-    let V = g.M.Monomial.vector in
-    let A = g.R.CoeffRing.value in
-    let p = g.R.CoeffRing.characteristic c.args.ring in
-    let lim = g.M.Monomial.LIM in
-    let names = c.args.names.now in
-    let bytes = c.args.bytes.now in
-    let all = summands t in
-    let l = c.loop-term.invariant.left t s in
-    let a = c.in-Ok.ensures.reads l.product (spell_signed l.others) l.found.total l.is_product (signed_here l.others l.are_signed) l.spelled l.found.total_is in
-    let k = step V A names bytes p lim all c.loop-term.start.at c.loop-term.start.negative c.loop-term.sum c.loop-term.degree_at c.loop-term.coefficient_at c.first_of-degree_at.result c.first_of-coefficient_at.result
-    c.loop-term.terms.items c.push_term.new.terms.items c.in-Ok.term l c.loop-term.invariant.within c.in-Ok.ensures.bound.0 c.in-Ok.ensures.bound.1 a
-    (c.first_of-degree_at.ensures ∙ ap (λ b. or_else c.loop-term.degree_at (cond b (Some c.loop-term.start.at) None)) (none_is c.in-Ok.term.mono c.is_none.result c.is_none.ensures))
-    (c.first_of-coefficient_at.ensures ∙ ap (λ b. or_else c.loop-term.coefficient_at (cond b (Some c.loop-term.start.at) None)) (none_is c.in-Ok.term.coef c.is_none-in-loop-term.result c.is_none-in-loop-term.ensures)) c.in_ok-push_term.ensures.pushed in
-    let e = ended names bytes p lim t c.in-Ok.term.next c.in-Ok.term.sum c.first_of-degree_at.result c.first_of-coefficient_at.result (sum_of V A c.push_term.new.terms.items) k (omega (arith, c.if-term-bytes.true)) in
-    fault_coefficient names p lim c.in-Some-coefficient_at.at t c.first_of-degree_at.result c.first_of-coefficient_at.result _ c.in_default.is c.in-Some-coefficient_at.is e
-
-pub returns-clause-belongs : goal.returns-clause-belongs
-returns-clause-belongs g c = coefs_pushed (λ a. g.R.CoeffRing.belongs (g.R.CoeffRing.characteristic c.args.ring) a) c.loop-term.terms.items c.push_term.new.terms.items c.in-Ok.term.mono c.in-Ok.term.coef c.in_ok-push_term.ensures.pushed c.loop-term.invariant.belongs c.in-Ok.ensures.belongs
-
-pub returns-clause-degrees : goal.returns-clause-degrees
-returns-clause-degrees g c = monos_pushed (λ m. degree (g.M.Monomial.vector m) ≤ g.M.Monomial.LIM) c.loop-term.terms.items c.push_term.new.terms.items c.in-Ok.term.mono c.in-Ok.term.coef c.in_ok-push_term.ensures.pushed c.loop-term.invariant.degrees c.in-Ok.ensures.degree
-
 pub returns-clause-reads : goal.returns-clause-reads
 returns-clause-reads g c = λ t s.
     let V = g.M.Monomial.vector in
@@ -127,5 +85,15 @@ returns-clause-reads g c = λ t s.
     c.loop-term.terms.items c.push_term.new.terms.items c.in-Ok.term l c.loop-term.invariant.within c.in-Ok.ensures.bound.0 c.in-Ok.ensures.bound.1 a
     (c.first_of-degree_at.ensures ∙ ap (λ b. or_else c.loop-term.degree_at (cond b (Some c.loop-term.start.at) None)) (none_is c.in-Ok.term.mono c.is_none.result c.is_none.ensures))
     (c.first_of-coefficient_at.ensures ∙ ap (λ b. or_else c.loop-term.coefficient_at (cond b (Some c.loop-term.start.at) None)) (none_is c.in-Ok.term.coef c.is_none-in-loop-term.result c.is_none-in-loop-term.ensures)) c.in_ok-push_term.ensures.pushed in
-    let e = ended names bytes p lim t c.in-Ok.term.next c.in-Ok.term.sum c.first_of-degree_at.result c.first_of-coefficient_at.result (sum_of V A c.push_term.new.terms.items) k (omega (arith, c.if-term-bytes.true)) in
-    no_fault names p lim t c.first_of-degree_at.result c.first_of-coefficient_at.result _ c.in_default.is c.in_default-coefficient_at.is e
+    let e : Ended names p lim t c.first_of-degree_at.result c.first_of-coefficient_at.result (sum_of V A c.push_term.new.terms.items) = ended names bytes p lim t c.in-Ok.term.next c.in-Ok.term.sum c.first_of-degree_at.result c.first_of-coefficient_at.result (sum_of V A c.push_term.new.terms.items) k (omega (arith, c.if-term-bytes.true)) in
+    judged (λ v. sum_of V A v.items) names p lim t c.first_of-degree_at.result c.first_of-coefficient_at.result c.push_term.new.terms c.within_bounds.result e c.within_bounds.ensures
+
+pub returns-clause-belongs : goal.returns-clause-belongs
+returns-clause-belongs g c =
+    within_too (λ v. All (λ t. g.R.CoeffRing.belongs (g.R.CoeffRing.characteristic c.args.ring) t.coef) v.items) _ _ c.push_term.new.terms c.within_bounds.result c.within_bounds.ensures
+    (coefs_pushed (λ a. g.R.CoeffRing.belongs (g.R.CoeffRing.characteristic c.args.ring) a) c.loop-term.terms.items c.push_term.new.terms.items c.in-Ok.term.mono c.in-Ok.term.coef c.in_ok-push_term.ensures.pushed c.loop-term.invariant.belongs c.in-Ok.ensures.belongs)
+
+pub returns-clause-degrees : goal.returns-clause-degrees
+returns-clause-degrees g c =
+    within_too (λ v. All (λ t. degree (g.M.Monomial.vector t.mono) ≤ g.M.Monomial.LIM) v.items) _ _ c.push_term.new.terms c.within_bounds.result c.within_bounds.ensures
+    (monos_pushed (λ m. degree (g.M.Monomial.vector m) ≤ g.M.Monomial.LIM) c.loop-term.terms.items c.push_term.new.terms.items c.in-Ok.term.mono c.in-Ok.term.coef c.in_ok-push_term.ensures.pushed c.loop-term.invariant.degrees c.in-Ok.ensures.degree)

@@ -1,6 +1,6 @@
 use Rattle.quotient_row.specs.Spelling.{words_of}
 use Rattle.quotient_row.specs.Legal.{Fits, Legal}
-use Rattle.quotient_row.proofs.Between.{at_each_moment}
+use Rattle.quotient_row.proofs.EachMoment.{at_each_moment}
 use Rattle.quotient_row.proofs.laws.row_at_each_moment.Goals as goal
 
 pub returns : goal.returns

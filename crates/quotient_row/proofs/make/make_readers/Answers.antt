@@ -1,5 +1,5 @@
 use Rattle.std.proofs.Common.{arith, ap, ◌∙◌}
-use Rattle.quotient_row.proofs.Keeps.{new_reader}
+use Rattle.quotient_row.proofs.RuleStays.{new_reader}
 use Rattle.quotient_row.proofs.make.make_readers.Goals as goal
 
 pub split_seat-other-requires : goal.split_seat-other-requires

@@ -4,7 +4,7 @@ use Rattle.std.proofs.lemmas.List.Elements.{All-nil, All-push}
 use Rattle.sdmp_laws.specs.Limits.{greatest_norm}
 use Rattle.packed_monomial.specs.Packing.{vector_of}
 use Rattle.packed_monomial.specs.declared.packed.Packed.{Packed}
-use Rattle.whole_laws.specs.Row.{RowCarry}
+use Rattle.divide_wholes.specs.Row.{RowCarry}
 use Rattle.quotient_row.specs.declared.note.RowNoteOf.TheVariants.{Term, Front}
 use Rattle.quotient_row.specs.Examples.{square_less_one}
 use Rattle.quotient_row.specs.Spelling.{Belongs, notes_of}

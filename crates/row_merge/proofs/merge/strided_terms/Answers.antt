@@ -17,7 +17,7 @@ loop-slot-preserved g c =
     let k = c.args.first + c.args.stride * c.loop-slot.slot in
     let x = c.index-terms-first.result in
     let low = c.requires.range c.loop-slot.slot c.loop-slot-test.true in
-    let items : c.push.new.self.items ≡ c.loop-slot.part.items ++ x ∷ [] = c.in-Ok.ensures.items in
+    let items : c.push.new.self.items ≡ c.loop-slot.part.items ++ x ∷ [] = c.in_ok-push.ensures.items in
     record {
       terms = more_strided g.M.Monomial.vector g.R.CoeffRing.value c.args.terms.now c.loop-slot.part.items c.push.new.self.items c.args.first c.args.stride c.loop-slot.slot x low c.loop-slot.invariant.terms (items ∙ ap (λ t. c.loop-slot.part.items ++ t ∷ []) c.index-terms-first.is);
       belongs = λ p h. subst (λ ts. All (λ t. g.R.CoeffRing.belongs p t.coef) ts) (sym items)

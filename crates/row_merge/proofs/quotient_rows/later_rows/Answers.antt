@@ -18,7 +18,7 @@ loop-place-preserved-then-place-workers g c = record {
 pub loop-place-preserved : goal.loop-place-preserved
 loop-place-preserved g c =
     let x = c.index-terms-place.result in
-    let items : c.push.new.self.items ≡ c.loop-place.rows.items ++ c.index-terms-place.result ∷ [] = c.in-Ok.ensures.items in
+    let items : c.push.new.self.items ≡ c.loop-place.rows.items ++ c.index-terms-place.result ∷ [] = c.in_ok-push.ensures.items in
     record {
       terms = later_more g.M.Monomial.vector g.R.CoeffRing.value c.args.workers c.args.worker c.loop-place.place c.args.terms.now c.loop-place.rows.items c.push.new.self.items c.index-terms-place.result c.loop-place.auto.place c.loop-place-test.true c.loop-place.invariant.terms
           (items ∙ (λ i. c.loop-place.rows.items ++ cond (sym (eq-eqb (c.loop-place.place % c.args.workers) c.args.worker c.if-place-workers.false) i) (c.index-terms-place.is i ∷ []) []));

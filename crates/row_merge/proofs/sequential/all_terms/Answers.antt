@@ -17,7 +17,7 @@ pub loop-term-preserved : goal.loop-term-preserved
 loop-term-preserved g c =
     let invariant = c.loop-term.invariant in
     let term = c.in-Some.term in
-    let pushed = c.in-Ok.ensures.items in
+    let pushed = c.in_ok-push.ensures.items in
     let belongs = subst (λ p. g.R.CoeffRing.belongs p term.coef) invariant.modulus c.in-Some.ensures.belongs in
     record {
       modulus = c.in-Some.ensures.factors.0 ∙ invariant.modulus;

@@ -1,4 +1,4 @@
-use Rattle.std.proofs.Common.{ℕ, length, arith, ltb-true, lt-ltb}
+use Rattle.std.proofs.Common.{ℕ, ◌+◌, ◌^◌, ◌<◌, length, get_or, arith, ltb-true, lt-ltb}
 use Rattle.std.proofs.Math.Facts.{Fits-of_lt}
 use Rattle.std.specs.List.{sum_by}
 use Rattle.chained_heap.specs.Shape.{present}
@@ -7,25 +7,25 @@ use Rattle.row_merge.proofs.Counts.{two_insertions}
 use Rattle.row_merge.proofs.Moves.{moved_count}
 use Rattle.row_merge.proofs.RowLists.{over_sum, long_sum}
 use Rattle.row_merge.proofs.Popped.{popped_read, popped_top, may_open, may_follow, moved_on}
+use Rattle.row_merge.proofs.waiting.move_on.Given as given
 use Rattle.row_merge.proofs.waiting.move_on.Goals as goal
+use Rattle.row_merge.proofs.waiting.move_on.Goals.{Start}
+
+-- the row may read one more term
+read_fits : (g : given.Over) (c : Start g) → get_or c.args.reads.now c.args.row 0 + 1 < 2 ^ 64
+read_fits g c =
+    let L = sum_of g.M.Monomial.vector g.R.CoeffRing.value c.args.learned.now in
+    let rows = sum_of g.M.Monomial.vector g.R.CoeffRing.value c.args.rows.now in
+    omega (arith, popped_read g.M.Monomial.vector g.M.Monomial.order L rows c.args.reads.now c.args.heap.now c.args.row c.requires.popped, popped_top g.M.Monomial.vector g.M.Monomial.order L rows c.args.reads.now c.args.heap.now c.args.row c.requires.popped, long_sum g.M.Monomial.vector g.R.CoeffRing.value c.args.learned.now, c.requires.long)
 
 pub overflow_add-reads : goal.overflow_add-reads
-overflow_add-reads g c =
-    let L = sum_of g.M.Monomial.vector g.R.CoeffRing.value c.args.learned.now in
-    let rows = sum_of g.M.Monomial.vector g.R.CoeffRing.value c.args.rows.now in
-    Fits-of_lt (omega (arith, popped_read g.M.Monomial.vector g.M.Monomial.order L rows c.args.reads.now c.args.heap.now c.args.row c.requires.popped, popped_top g.M.Monomial.vector g.M.Monomial.order L rows c.args.reads.now c.args.heap.now c.args.row c.requires.popped, long_sum g.M.Monomial.vector g.R.CoeffRing.value c.args.learned.now, c.requires.long))
+overflow_add-reads g c = Fits-of_lt (read_fits g (goal.at.overflow_add-reads g c).Start)
 
 pub overflow_add-read : goal.overflow_add-read
-overflow_add-read g c =
-    let L = sum_of g.M.Monomial.vector g.R.CoeffRing.value c.args.learned.now in
-    let rows = sum_of g.M.Monomial.vector g.R.CoeffRing.value c.args.rows.now in
-    Fits-of_lt (omega (arith, popped_read g.M.Monomial.vector g.M.Monomial.order L rows c.args.reads.now c.args.heap.now c.args.row c.requires.popped, popped_top g.M.Monomial.vector g.M.Monomial.order L rows c.args.reads.now c.args.heap.now c.args.row c.requires.popped, long_sum g.M.Monomial.vector g.R.CoeffRing.value c.args.learned.now, c.requires.long))
+overflow_add-read g c = Fits-of_lt (read_fits g (goal.at.overflow_add-read g c).Start)
 
 pub overflow_add-read-2 : goal.overflow_add-read-2
-overflow_add-read-2 g c =
-    let L = sum_of g.M.Monomial.vector g.R.CoeffRing.value c.args.learned.now in
-    let rows = sum_of g.M.Monomial.vector g.R.CoeffRing.value c.args.rows.now in
-    Fits-of_lt (omega (arith, popped_read g.M.Monomial.vector g.M.Monomial.order L rows c.args.reads.now c.args.heap.now c.args.row c.requires.popped, popped_top g.M.Monomial.vector g.M.Monomial.order L rows c.args.reads.now c.args.heap.now c.args.row c.requires.popped, long_sum g.M.Monomial.vector g.R.CoeffRing.value c.args.learned.now, c.requires.long))
+overflow_add-read-2 g c = Fits-of_lt (read_fits g (goal.at.overflow_add-read-2 g c).Start)
 
 pub insert_if-requires-clause-within : goal.insert_if-requires-clause-within
 insert_if-requires-clause-within g c κs within = λ o.

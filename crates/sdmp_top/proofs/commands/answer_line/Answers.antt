@@ -2,7 +2,9 @@ use Rattle.std.proofs.Common.{rules, map, List, ℕ, ◌≡◌, ◌∙◌, ap, s
 use Rattle.std.proofs.lemmas.Result.{IfErr-weaker, on_ok_weaker}
 use Rattle.calc_session.specs.Body.{form_of, Define, Show, Mul, Div, Rem}
 use Rattle.calc_session.specs.View.{held}
-use Rattle.calc_session.proofs.CommandLemmas.{passed_up, begins_within, to_err, to_skip, to_define, to_unread, to_piece, to_fault}
+use Rattle.poly_text.proofs.Results.{passed_up}
+use Rattle.calc_session.proofs.CommandLemmas.{begins_within, to_err, to_skip, to_define, to_unread}
+use Rattle.sdmp_top.proofs.LineLemmas.{answered, refused}
 use Rattle.sdmp_top.proofs.commands.answer_line.Goals as goal
 
 pub returns-in_err-parse_line-clause-refused : goal.returns-in_err-parse_line-clause-refused
@@ -38,57 +40,25 @@ returns-in-Define-clause-refused g c =
     IfErr-weaker c.define.result _ _ (λ fault h other. to_unread S D c.args.line.now c.in-Define.name.now c.in-Define.start fault said (h other)) c.define.ensures.refused
 
 pub returns-in-Show-clause-answered : goal.returns-in-Show-clause-answered
-returns-in-Show-clause-answered g c =
-    let S = c.args.session.now.setting in
-    let D = held c.args.session.now.defined in
-    let said : form_of S.variables c.args.line.now ≡ Ok (Show c.in-Show.a.now) = search rules in
-    on_ok_weaker c.show.result (λ h. to_piece S D c.args.line.now (Show c.in-Show.a.now) c.show.new.out.items tt said h) c.show.ensures.ok
+returns-in-Show-clause-answered g c = answered c.args.session.now c.args.line.now c.show.new.out.items (Show c.in-Show.a.now) c.show.result tt (search rules) c.show.ensures.ok
 
 pub returns-in-Show-clause-refused : goal.returns-in-Show-clause-refused
-returns-in-Show-clause-refused g c =
-    let S = c.args.session.now.setting in
-    let D = held c.args.session.now.defined in
-    let said : form_of S.variables c.args.line.now ≡ Ok (Show c.in-Show.a.now) = search rules in
-    IfErr-weaker c.show.result _ _ (λ fault h other. to_fault S D c.args.line.now (Show c.in-Show.a.now) fault tt said (h other)) c.show.ensures.refused
+returns-in-Show-clause-refused g c = refused c.args.session.now c.args.line.now (Show c.in-Show.a.now) c.show.result tt (search rules) c.show.ensures.refused
 
 pub returns-in-Mul-clause-answered : goal.returns-in-Mul-clause-answered
-returns-in-Mul-clause-answered g c =
-    let S = c.args.session.now.setting in
-    let D = held c.args.session.now.defined in
-    let said : form_of S.variables c.args.line.now ≡ Ok (Mul c.in-Mul.a.now c.in-Mul.b.now) = search rules in
-    on_ok_weaker c.multiply.result (λ h. to_piece S D c.args.line.now (Mul c.in-Mul.a.now c.in-Mul.b.now) c.multiply.new.out.items tt said h) c.multiply.ensures.ok
+returns-in-Mul-clause-answered g c = answered c.args.session.now c.args.line.now c.multiply.new.out.items (Mul c.in-Mul.a.now c.in-Mul.b.now) c.multiply.result tt (search rules) c.multiply.ensures.ok
 
 pub returns-in-Mul-clause-refused : goal.returns-in-Mul-clause-refused
-returns-in-Mul-clause-refused g c =
-    let S = c.args.session.now.setting in
-    let D = held c.args.session.now.defined in
-    let said : form_of S.variables c.args.line.now ≡ Ok (Mul c.in-Mul.a.now c.in-Mul.b.now) = search rules in
-    IfErr-weaker c.multiply.result _ _ (λ fault h other. to_fault S D c.args.line.now (Mul c.in-Mul.a.now c.in-Mul.b.now) fault tt said (h other)) c.multiply.ensures.refused
+returns-in-Mul-clause-refused g c = refused c.args.session.now c.args.line.now (Mul c.in-Mul.a.now c.in-Mul.b.now) c.multiply.result tt (search rules) c.multiply.ensures.refused
 
 pub returns-in-Div-clause-answered : goal.returns-in-Div-clause-answered
-returns-in-Div-clause-answered g c =
-    let S = c.args.session.now.setting in
-    let D = held c.args.session.now.defined in
-    let said : form_of S.variables c.args.line.now ≡ Ok (Div c.in-Div.a.now c.in-Div.b.now) = search rules in
-    on_ok_weaker c.divide.result (λ h. to_piece S D c.args.line.now (Div c.in-Div.a.now c.in-Div.b.now) c.divide.new.out.items tt said h) c.divide.ensures.ok
+returns-in-Div-clause-answered g c = answered c.args.session.now c.args.line.now c.divide.new.out.items (Div c.in-Div.a.now c.in-Div.b.now) c.divide.result tt (search rules) c.divide.ensures.ok
 
 pub returns-in-Div-clause-refused : goal.returns-in-Div-clause-refused
-returns-in-Div-clause-refused g c =
-    let S = c.args.session.now.setting in
-    let D = held c.args.session.now.defined in
-    let said : form_of S.variables c.args.line.now ≡ Ok (Div c.in-Div.a.now c.in-Div.b.now) = search rules in
-    IfErr-weaker c.divide.result _ _ (λ fault h other. to_fault S D c.args.line.now (Div c.in-Div.a.now c.in-Div.b.now) fault tt said (h other)) c.divide.ensures.refused
+returns-in-Div-clause-refused g c = refused c.args.session.now c.args.line.now (Div c.in-Div.a.now c.in-Div.b.now) c.divide.result tt (search rules) c.divide.ensures.refused
 
 pub returns-in-Rem-clause-answered : goal.returns-in-Rem-clause-answered
-returns-in-Rem-clause-answered g c =
-    let S = c.args.session.now.setting in
-    let D = held c.args.session.now.defined in
-    let said : form_of S.variables c.args.line.now ≡ Ok (Rem c.in-Rem.a.now c.in-Rem.b.now) = search rules in
-    on_ok_weaker c.divide_with_rest.result (λ h. to_piece S D c.args.line.now (Rem c.in-Rem.a.now c.in-Rem.b.now) c.divide_with_rest.new.out.items tt said h) c.divide_with_rest.ensures.ok
+returns-in-Rem-clause-answered g c = answered c.args.session.now c.args.line.now c.divide_with_rest.new.out.items (Rem c.in-Rem.a.now c.in-Rem.b.now) c.divide_with_rest.result tt (search rules) c.divide_with_rest.ensures.ok
 
 pub returns-in-Rem-clause-refused : goal.returns-in-Rem-clause-refused
-returns-in-Rem-clause-refused g c =
-    let S = c.args.session.now.setting in
-    let D = held c.args.session.now.defined in
-    let said : form_of S.variables c.args.line.now ≡ Ok (Rem c.in-Rem.a.now c.in-Rem.b.now) = search rules in
-    IfErr-weaker c.divide_with_rest.result _ _ (λ fault h other. to_fault S D c.args.line.now (Rem c.in-Rem.a.now c.in-Rem.b.now) fault tt said (h other)) c.divide_with_rest.ensures.refused
+returns-in-Rem-clause-refused g c = refused c.args.session.now c.args.line.now (Rem c.in-Rem.a.now c.in-Rem.b.now) c.divide_with_rest.result tt (search rules) c.divide_with_rest.ensures.refused

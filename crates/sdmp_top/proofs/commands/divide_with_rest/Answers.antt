@@ -4,7 +4,8 @@ use Rattle.sdmp_laws.specs.declared.Mode.TheVariants.{Remainder}
 use Rattle.division_laws.specs.Outcome.{HasRemainder}
 use Rattle.calc_session.specs.Quotient.{division}
 use Rattle.calc_session.specs.View.{held}
-use Rattle.calc_session.proofs.CommandLemmas.{passed_up, divided_err, rem_ok}
+use Rattle.poly_text.proofs.Results.{passed_up}
+use Rattle.calc_session.proofs.CommandLemmas.{divided_err, rem_ok}
 use Rattle.sdmp_top.proofs.SettingLemmas.{outcome_there, undivided_there, both_there, lines_there}
 use Rattle.sdmp_top.proofs.commands.divide_with_rest.Goals as goal
 

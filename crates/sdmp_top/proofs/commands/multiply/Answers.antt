@@ -1,7 +1,8 @@
 use Rattle.std.proofs.Common.{◌∙◌, sym}
 use Rattle.std.proofs.lemmas.Result.{IfErr-weaker, on_ok_weaker}
 use Rattle.calc_session.specs.View.{held}
-use Rattle.calc_session.proofs.CommandLemmas.{passed_up, mul_ok, mul_err, mul_left, mul_right}
+use Rattle.poly_text.proofs.Results.{passed_up}
+use Rattle.calc_session.proofs.CommandLemmas.{mul_ok, mul_err, mul_left, mul_right}
 use Rattle.sdmp_top.proofs.SettingLemmas.{product_there, refused_there, line_there}
 use Rattle.sdmp_top.proofs.commands.multiply.Goals as goal
 

@@ -1,6 +1,6 @@
 use Rattle.term_ring.specs.Spelling.{words_of}
 use Rattle.term_ring.specs.Carried.{Fits, Carries}
-use Rattle.term_ring.proofs.Between.{at_each_moment}
+use Rattle.term_ring.proofs.EachMoment.{at_each_moment}
 use Rattle.term_ring.proofs.laws.ring_at_each_moment.Goals as goal
 
 pub returns : goal.returns

@@ -15,24 +15,24 @@ pub unwrap-coef-requires : goal.unwrap-coef-requires
 unwrap-coef-requires g c =
     let monomials = g.met.M.Monomial g.world.𝓛 g.world.𝓜 g.world.𝓡 ((λ s x. x), (λ x. x), (λ x. x), λ x. x) in
     let x = c.requires in
-    let t = term_at g.M.Monomial.words g.R.CoeffRing.words (g.R.CoeffRing.belongs (g.R.CoeffRing.characteristic c.args.ring.now)) monomials.two_words c.args.bits.now x.0 c.told-bits c.if-kind-eq1.true x.1 x.2 in
+    let t = term_at g.M.Monomial.words g.R.CoeffRing.words (g.R.CoeffRing.belongs (g.R.CoeffRing.characteristic c.args.coefficients.now)) monomials.two_words c.args.bits.now x.0 c.told-bits c.if-kind-eq1.true x.1 x.2 in
     is_there _ _ _ c.from_words-then-kind-eq1.ensures (λ none. none t.0.coef t.2 t.4)
 
 pub returns-then-kind-eq1 : goal.returns-then-kind-eq1
 returns-then-kind-eq1 g c x f h =
     let monomials = g.met.M.Monomial g.world.𝓛 g.world.𝓜 g.world.𝓡 ((λ s x. x), (λ x. x), (λ x. x), λ x. x) in
     let coefficients = g.met.R.CoeffRing g.world.𝓛 g.world.𝓜 g.world.𝓡 ((λ s x. x), (λ x. x), (λ x. x), λ x. x) in
-    let t = term_at g.M.Monomial.words g.R.CoeffRing.words (g.R.CoeffRing.belongs (g.R.CoeffRing.characteristic c.args.ring.now)) monomials.two_words c.args.bits.now x c.told-bits c.if-kind-eq1.true f h in
+    let t = term_at g.M.Monomial.words g.R.CoeffRing.words (g.R.CoeffRing.belongs (g.R.CoeffRing.characteristic c.args.coefficients.now)) monomials.two_words c.args.bits.now x c.told-bits c.if-kind-eq1.true f h in
     let m = said _ c.unwrap-mono.result _ _ c.unwrap-mono.ensures c.from_words.ensures in
     let e = said _ c.unwrap-coef.result _ _ c.unwrap-coef.ensures c.from_words-then-kind-eq1.ensures in
     let p : c.unwrap-mono.result ≡ t.0.mono = monomials.spelled _ _ (m ∙ sym t.3) in
-    let q : c.unwrap-coef.result ≡ t.0.coef = coefficients.spelled c.args.ring.now _ _ e.0 t.2 (e.1 ∙ sym t.4) in
+    let q : c.unwrap-coef.result ≡ t.0.coef = coefficients.spelled c.args.coefficients.now _ _ e.0 t.2 (e.1 ∙ sym t.4) in
     (λ i. Term record { mono = p i; coef = q i }) ∙ sym t.1
 
 pub returns-then-kind-eq3 : goal.returns-then-kind-eq3
 returns-then-kind-eq3 g c x f h =
     let monomials = g.met.M.Monomial g.world.𝓛 g.world.𝓜 g.world.𝓡 ((λ s x. x), (λ x. x), (λ x. x), λ x. x) in
-    let t = mark_at g.M.Monomial.words g.R.CoeffRing.words (g.R.CoeffRing.belongs (g.R.CoeffRing.characteristic c.args.ring.now)) monomials.two_words c.args.bits.now x c.told-bits c.if-kind-eq3.true h in
+    let t = mark_at g.M.Monomial.words g.R.CoeffRing.words (g.R.CoeffRing.belongs (g.R.CoeffRing.characteristic c.args.coefficients.now)) monomials.two_words c.args.bits.now x c.told-bits c.if-kind-eq3.true h in
     let m = said _ c.unwrap.result _ _ c.unwrap.ensures c.from_words-then-kind-eq3.ensures in
     let p : c.unwrap.result ≡ t.0 = monomials.spelled _ _ (m ∙ sym t.2) in
     ap (λ y. Mark (get_or c.args.bits.now 3 0) (Some y)) p ∙ sym t.1

@@ -1,7 +1,8 @@
 use Rattle.std.proofs.Common.{rules, ◌≡◌, ◌≢◌, Err, ◌++◌, [], ℕ, List, map, string_bytes, ap, sym, ◌∙◌, append-nil}
 use Rattle.poly_text.specs.Words.{words_of}
 use Rattle.poly_text.specs.Names.{names_of, fault_behind}
-use Rattle.poly_text.proofs.NameLemmas.{passed_up, refused_by, accepted, one_more}
+use Rattle.poly_text.proofs.Results.{passed_up}
+use Rattle.poly_text.proofs.NameLemmas.{refused_by, accepted, one_more}
 use Rattle.poly_text.specs.declared.names.NamesFault.TheVariants.{NoMemory}
 use Rattle.poly_text.proofs.names.Names.new.Goals as goal
 

@@ -1,7 +1,7 @@
 use Rattle.std.proofs.Common.{rules, arith, ◌≡◌, ◌+◌, ◌*◌, length, get_or}
 use Rattle.std.proofs.lemmas.Grind.{common_steps}
 use Rattle.quotient_row.proofs.Carrying.{legal_none}
-use Rattle.quotient_row.proofs.Keeps.{starts}
+use Rattle.quotient_row.proofs.RuleStays.{starts}
 use Rattle.quotient_row.proofs.row.Row.new.Goals as goal
 
 pub of_words-requires : goal.of_words-requires

@@ -1,5 +1,5 @@
 use Rattle.std.proofs.Common.{arith, ap, ◌∙◌}
-use Rattle.quotient_row.proofs.Keeps.{copies_published, told_reader, looks_count}
+use Rattle.quotient_row.proofs.RuleStays.{copies_published, told_reader, looks_count}
 use Rattle.quotient_row.proofs.row.RowReader.meet.Goals as goal
 
 pub split_seat-copy-requires : goal.split_seat-copy-requires

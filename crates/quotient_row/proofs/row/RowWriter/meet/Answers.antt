@@ -1,5 +1,5 @@
 use Rattle.std.proofs.Common.{arith, ap, ◌∙◌}
-use Rattle.quotient_row.proofs.Keeps.{copies_known, told_writer, looks_own}
+use Rattle.quotient_row.proofs.RuleStays.{copies_known, told_writer, looks_own}
 use Rattle.quotient_row.proofs.row.RowWriter.meet.Goals as goal
 
 pub split_seat-copy-requires : goal.split_seat-copy-requires

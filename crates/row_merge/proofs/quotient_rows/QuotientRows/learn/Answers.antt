@@ -6,7 +6,7 @@ use Rattle.sdmp_laws.specs.Order.{degree}
 use Rattle.sdmp_laws.specs.Poly.{Term, norm, row, lm, Decreasing}
 use Rattle.sdmp_laws.specs.Limits.{greatest_norm}
 use Rattle.canonical_terms.specs.View.{term_of, sum_of}
-use Rattle.row_merge.specs.Learned.{QuotientState, left_to_read, product_at, AreRows, AreLearned, IsMoved}
+use Rattle.row_merge.specs.Learned.{QuotientState, unread, product_at, AreRows, AreLearned, IsMoved}
 use Rattle.row_merge.proofs.RowLists.{long_sum}
 use Rattle.row_merge.proofs.Keeps.{rows_low, learned_low, push_sum, learn_kept, first_out, learn_rows, learn_left}
 use Rattle.row_merge.proofs.quotient_rows.QuotientRows.learn.Goals as goal
@@ -65,5 +65,5 @@ pub returns-clause-unread : goal.returns-clause-unread
 returns-clause-unread g c =
     let q = c.self.invariant.1 in
     let sums : sum_of g.M.Monomial.vector g.R.CoeffRing.value c.push_reserved.new.self.items ≡ (sum_of g.M.Monomial.vector g.R.CoeffRing.value c.self.inside.learned.items) ++ (term_of g.M.Monomial.vector g.R.CoeffRing.value c.args.term) ∷ [] = push_sum g.M.Monomial.vector g.R.CoeffRing.value c.self.inside.learned.items c.push_reserved.new.self.items c.args.term c.push_reserved.ensures.items in
-    subst (λ (s : QuotientState). IsPermutation (s.unread ++ row (term_of g.M.Monomial.vector g.R.CoeffRing.value c.args.term) s.rows) (left_to_read (sum_of g.M.Monomial.vector g.R.CoeffRing.value c.push_reserved.new.self.items) c.self.inside.reads.items (sum_of g.M.Monomial.vector g.R.CoeffRing.value c.self.inside.rows.items))) c.self.view_is
-    (subst (λ (A : List Term). IsPermutation (left_to_read (sum_of g.M.Monomial.vector g.R.CoeffRing.value c.self.inside.learned.items) c.self.inside.reads.items (sum_of g.M.Monomial.vector g.R.CoeffRing.value c.self.inside.rows.items) ++ row (term_of g.M.Monomial.vector g.R.CoeffRing.value c.args.term) (sum_of g.M.Monomial.vector g.R.CoeffRing.value c.self.inside.rows.items)) (left_to_read A c.self.inside.reads.items (sum_of g.M.Monomial.vector g.R.CoeffRing.value c.self.inside.rows.items))) (sym sums) (learn_left g.M.Monomial.vector g.M.Monomial.order (sum_of g.M.Monomial.vector g.R.CoeffRing.value c.self.inside.learned.items) (sum_of g.M.Monomial.vector g.R.CoeffRing.value c.self.inside.rows.items) c.self.inside.reads.items c.self.inside.heap (term_of g.M.Monomial.vector g.R.CoeffRing.value c.args.term) q.placed))
+    subst (λ (s : QuotientState). IsPermutation (s.unread ++ row (term_of g.M.Monomial.vector g.R.CoeffRing.value c.args.term) s.rows) (unread (sum_of g.M.Monomial.vector g.R.CoeffRing.value c.self.inside.rows.items) c.self.inside.reads.items (sum_of g.M.Monomial.vector g.R.CoeffRing.value c.push_reserved.new.self.items))) c.self.view_is
+    (subst (λ (A : List Term). IsPermutation (unread (sum_of g.M.Monomial.vector g.R.CoeffRing.value c.self.inside.rows.items) c.self.inside.reads.items (sum_of g.M.Monomial.vector g.R.CoeffRing.value c.self.inside.learned.items) ++ row (term_of g.M.Monomial.vector g.R.CoeffRing.value c.args.term) (sum_of g.M.Monomial.vector g.R.CoeffRing.value c.self.inside.rows.items)) (unread (sum_of g.M.Monomial.vector g.R.CoeffRing.value c.self.inside.rows.items) c.self.inside.reads.items A)) (sym sums) (learn_left g.M.Monomial.vector g.M.Monomial.order (sum_of g.M.Monomial.vector g.R.CoeffRing.value c.self.inside.learned.items) (sum_of g.M.Monomial.vector g.R.CoeffRing.value c.self.inside.rows.items) c.self.inside.reads.items c.self.inside.heap (term_of g.M.Monomial.vector g.R.CoeffRing.value c.args.term) q.placed))

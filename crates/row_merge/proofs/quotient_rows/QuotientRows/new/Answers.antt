@@ -5,7 +5,7 @@ use Rattle.sdmp_laws.specs.Canonical.{IsCanonical}
 use Rattle.canonical_terms.specs.View.{sum_of}
 use Rattle.chained_heap.specs.declared.node.Place.{Place}
 use Rattle.chained_heap.specs.declared.node.Place.TheVariants.{Out}
-use Rattle.row_merge.specs.Learned.{left_to_read, AreLearned}
+use Rattle.row_merge.specs.Learned.{unread, AreLearned}
 use Rattle.row_merge.proofs.RowLists.{long_sum}
 use Rattle.row_merge.proofs.Moves.{rows_start, none_left}
 use Rattle.row_merge.proofs.Keeps.{start_kept, move_rows}
@@ -18,7 +18,7 @@ invariant_of-result g c =
     let long : length c.in_ok-rows.rows.items ≡ length (sum_of g.M.Monomial.vector g.R.CoeffRing.value c.in_ok-rows.rows.items) = long_sum g.M.Monomial.vector g.R.CoeffRing.value c.in_ok-rows.rows.items in
     let none : sum_of g.M.Monomial.vector g.R.CoeffRing.value c.new.result.items ≡ [] = ap (sum_of g.M.Monomial.vector g.R.CoeffRing.value) c.new.ensures.items in
     let count : vec_len c.in_ok-rows.rows ≡ length (sum_of g.M.Monomial.vector g.R.CoeffRing.value c.in_ok-rows.rows.items) = omega (arith, long, c.in_ok-rows.rows.ok) in
-    let reads : c.in-Ok.reads.items ≡ replicate (length (sum_of g.M.Monomial.vector g.R.CoeffRing.value c.in_ok-rows.rows.items)) 0 = c.in-Ok.ensures.items_if_clones_equal (λ y h. h) ∙ ap (λ (n : ℕ). replicate {A = ℕ} n 0) (c.len-2.ensures ∙ count) in
+    let reads : c.in_ok-reads.reads.items ≡ replicate (length (sum_of g.M.Monomial.vector g.R.CoeffRing.value c.in_ok-rows.rows.items)) 0 = c.in_ok-reads.ensures.items_if_clones_equal (λ y h. h) ∙ ap (λ (n : ℕ). replicate {A = ℕ} n 0) (c.len-2.ensures ∙ count) in
     let heap : c.in_ok-heap.heap ≡ replicate (length (sum_of g.M.Monomial.vector g.R.CoeffRing.value c.in_ok-rows.rows.items)) Out = c.in_ok-heap.ensures ∙ ap (λ (n : ℕ). replicate {A = Place g.row.M.Denot} n Out) (c.len-3.ensures ∙ count) in (
       p,
       record {
@@ -36,6 +36,6 @@ pub returns : goal.returns
 returns g c =
     let terms : (sum_of g.M.Monomial.vector g.R.CoeffRing.value c.in_ok-rows.rows.items) ≡ (every c.args.workers c.args.worker 1 (drop 1 c.args.divisor.now.list)) = c.in_ok-rows.ensures.terms ∙ ap (λ (A : List Term). every c.args.workers c.args.worker 1 (drop 1 A)) c.terms.ensures.view in
     let none : sum_of g.M.Monomial.vector g.R.CoeffRing.value c.new.result.items ≡ [] = ap (sum_of g.M.Monomial.vector g.R.CoeffRing.value) c.new.ensures.items in
-    let unread : left_to_read (sum_of g.M.Monomial.vector g.R.CoeffRing.value c.new.result.items) c.in-Ok.reads.items (sum_of g.M.Monomial.vector g.R.CoeffRing.value c.in_ok-rows.rows.items) ≡ [] = ap (λ (A : List Term). left_to_read A c.in-Ok.reads.items (sum_of g.M.Monomial.vector g.R.CoeffRing.value c.in_ok-rows.rows.items)) none ∙ none_left c.in-Ok.reads.items (sum_of g.M.Monomial.vector g.R.CoeffRing.value c.in_ok-rows.rows.items) in
+    let empty : unread (sum_of g.M.Monomial.vector g.R.CoeffRing.value c.in_ok-rows.rows.items) c.in_ok-reads.reads.items (sum_of g.M.Monomial.vector g.R.CoeffRing.value c.new.result.items) ≡ [] = ap (λ (A : List Term). unread (sum_of g.M.Monomial.vector g.R.CoeffRing.value c.in_ok-rows.rows.items) c.in_ok-reads.reads.items A) none ∙ none_left c.in_ok-reads.reads.items (sum_of g.M.Monomial.vector g.R.CoeffRing.value c.in_ok-rows.rows.items) in
     let spare : vec_capacity c.new.result - vec_len c.new.result ≡ 0 = omega (arith, c.new.ensures.capacity, c.new.ensures.len) in
-    λ i. record { modulus = c.ring.ensures i; divisor = c.args.divisor.now.list; rows = terms i; learned = none i; unread = unread i; spare = spare i }
+    λ i. record { modulus = c.ring.ensures i; divisor = c.args.divisor.now.list; rows = terms i; learned = none i; unread = empty i; spare = spare i }

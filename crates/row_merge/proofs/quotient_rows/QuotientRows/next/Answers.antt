@@ -5,7 +5,7 @@ use Rattle.std.specs.Vec.{with_items}
 use Rattle.sdmp_laws.specs.Order.{degree}
 use Rattle.sdmp_laws.specs.Poly.{norm}
 use Rattle.canonical_terms.specs.View.{term_of, sum_of}
-use Rattle.row_merge.specs.Learned.{QuotientState, left_to_read, HandOut, IsGreatest}
+use Rattle.row_merge.specs.Learned.{QuotientState, unread, HandOut, IsGreatest}
 use Rattle.row_merge.proofs.Places.{empty_has_none, top_is_greatest, taken_rows}
 use Rattle.row_merge.proofs.Keeps.{rows_low, learned_low, left_fits, move_rows, move_out}
 use Rattle.row_merge.proofs.quotient_rows.QuotientRows.next.Goals as goal
@@ -35,7 +35,7 @@ sum_at-requires-clause-learned_low g c κs within =
 pub sum_at-requires-clause-fits : goal.sum_at-requires-clause-fits
 sum_at-requires-clause-fits g c κs within = λ z.
     let q = c.self.invariant.1 in
-    let e : norm (left_to_read (sum_of g.M.Monomial.vector g.R.CoeffRing.value c.deref-in-Some.result.now) c.deref_mut.result.now (sum_of g.M.Monomial.vector g.R.CoeffRing.value c.deref.result.now)) ≡ norm (left_to_read (sum_of g.M.Monomial.vector g.R.CoeffRing.value c.self.inside.learned.items) c.self.inside.reads.items (sum_of g.M.Monomial.vector g.R.CoeffRing.value c.self.inside.rows.items)) = λ i. norm (left_to_read (sum_of g.M.Monomial.vector g.R.CoeffRing.value (c.deref-in-Some.ensures.value i)) (c.deref_mut.ensures.value i) (sum_of g.M.Monomial.vector g.R.CoeffRing.value (c.deref.ensures.value i))) in
+    let e : norm (unread (sum_of g.M.Monomial.vector g.R.CoeffRing.value c.deref.result.now) c.deref_mut.result.now (sum_of g.M.Monomial.vector g.R.CoeffRing.value c.deref-in-Some.result.now)) ≡ norm (unread (sum_of g.M.Monomial.vector g.R.CoeffRing.value c.self.inside.rows.items) c.self.inside.reads.items (sum_of g.M.Monomial.vector g.R.CoeffRing.value c.self.inside.learned.items)) = λ i. norm (unread (sum_of g.M.Monomial.vector g.R.CoeffRing.value (c.deref.ensures.value i)) (c.deref_mut.ensures.value i) (sum_of g.M.Monomial.vector g.R.CoeffRing.value (c.deref-in-Some.ensures.value i))) in
     omega (arith, e, left_fits g.M.Monomial.order (g.R.CoeffRing.characteristic c.self.inside.ring) g.M.Monomial.VARS g.M.Monomial.LIM c.self.inside.divisor.now.list (sum_of g.M.Monomial.vector g.R.CoeffRing.value c.self.inside.rows.items) (sum_of g.M.Monomial.vector g.R.CoeffRing.value c.self.inside.learned.items) c.self.inside.reads.items q.kept z)
 
 pub invariant_of-self-in-Some : goal.invariant_of-self-in-Some
@@ -55,8 +55,8 @@ pub returns-in-Some-clause-sum : goal.returns-in-Some-clause-sum
 returns-in-Some-clause-sum g c =
     let monos = g.met.M.Monomial g.world.𝓛 g.world.𝓜 g.world.𝓡 ((λ s x. x), (λ x. x), (λ x. x), λ x. x) in
     let q = c.self.invariant.1 in
-    subst (λ (s : QuotientState). HandOut g.M.Monomial.order s (record { modulus = (g.R.CoeffRing.characteristic c.self.inside.ring); divisor = c.self.inside.divisor.now.list; rows = (sum_of g.M.Monomial.vector g.R.CoeffRing.value c.self.inside.rows.items); learned = (sum_of g.M.Monomial.vector g.R.CoeffRing.value c.self.inside.learned.items); unread = left_to_read (sum_of g.M.Monomial.vector g.R.CoeffRing.value c.self.inside.learned.items) (with_items c.self.inside.reads c.sum_at.new.reads).items (sum_of g.M.Monomial.vector g.R.CoeffRing.value c.self.inside.rows.items); spare = vec_capacity c.self.inside.learned - vec_len c.self.inside.learned }) (term_of g.M.Monomial.vector g.R.CoeffRing.value c.sum_at.result)) c.self.view_is (record {
-      greatest = subst (λ m. IsGreatest g.M.Monomial.order (left_to_read (sum_of g.M.Monomial.vector g.R.CoeffRing.value c.self.inside.learned.items) c.self.inside.reads.items (sum_of g.M.Monomial.vector g.R.CoeffRing.value c.self.inside.rows.items)) (g.M.Monomial.vector m)) (sym c.sum_at.ensures.mono) (top_is_greatest g.M.Monomial.vector g.M.Monomial.order g.M.Monomial.VARS g.M.Ord.cmp (record { vars = monos.vars; ordered = monos.ordered }) (sum_of g.M.Monomial.vector g.R.CoeffRing.value c.self.inside.learned.items) (sum_of g.M.Monomial.vector g.R.CoeffRing.value c.self.inside.rows.items) c.self.inside.reads.items c.self.inside.heap c.in-Some.mono q.placed q.kept.rows_fall q.kept.rows_vectors q.kept.fall q.kept.vectors c.in-Some.ensures.places.0);
+    subst (λ (s : QuotientState). HandOut g.M.Monomial.order s (record { modulus = (g.R.CoeffRing.characteristic c.self.inside.ring); divisor = c.self.inside.divisor.now.list; rows = (sum_of g.M.Monomial.vector g.R.CoeffRing.value c.self.inside.rows.items); learned = (sum_of g.M.Monomial.vector g.R.CoeffRing.value c.self.inside.learned.items); unread = unread (sum_of g.M.Monomial.vector g.R.CoeffRing.value c.self.inside.rows.items) (with_items c.self.inside.reads c.sum_at.new.reads).items (sum_of g.M.Monomial.vector g.R.CoeffRing.value c.self.inside.learned.items); spare = vec_capacity c.self.inside.learned - vec_len c.self.inside.learned }) (term_of g.M.Monomial.vector g.R.CoeffRing.value c.sum_at.result)) c.self.view_is (record {
+      greatest = subst (λ m. IsGreatest g.M.Monomial.order (unread (sum_of g.M.Monomial.vector g.R.CoeffRing.value c.self.inside.rows.items) c.self.inside.reads.items (sum_of g.M.Monomial.vector g.R.CoeffRing.value c.self.inside.learned.items)) (g.M.Monomial.vector m)) (sym c.sum_at.ensures.mono) (top_is_greatest g.M.Monomial.vector g.M.Monomial.order g.M.Monomial.VARS g.M.Ord.cmp (record { vars = monos.vars; ordered = monos.ordered }) (sum_of g.M.Monomial.vector g.R.CoeffRing.value c.self.inside.learned.items) (sum_of g.M.Monomial.vector g.R.CoeffRing.value c.self.inside.rows.items) c.self.inside.reads.items c.self.inside.heap c.in-Some.mono q.placed q.kept.rows_fall q.kept.rows_vectors q.kept.fall q.kept.vectors c.in-Some.ensures.places.0);
       out = move_out g.M.Monomial.order (g.R.CoeffRing.characteristic c.self.inside.ring) (sum_of g.M.Monomial.vector g.R.CoeffRing.value c.deref-in-Some.result.now) (sum_of g.M.Monomial.vector g.R.CoeffRing.value c.self.inside.learned.items) (sum_of g.M.Monomial.vector g.R.CoeffRing.value c.deref.result.now) (sum_of g.M.Monomial.vector g.R.CoeffRing.value c.self.inside.rows.items) c.deref_mut.result.now c.self.inside.reads.items c.sum_at.new.reads _ (term_of g.M.Monomial.vector g.R.CoeffRing.value c.sum_at.result) (ap (sum_of g.M.Monomial.vector g.R.CoeffRing.value) c.deref-in-Some.ensures.value) (ap (sum_of g.M.Monomial.vector g.R.CoeffRing.value) c.deref.ensures.value) c.deref_mut.ensures.value (sym (with_items_is c.self.inside.reads c.sum_at.new.reads (omega (arith, c.sum_at.auto.reads, c.deref_mut.ensures.len)))) c.sum_at.ensures.out;
       same = refl;
     })

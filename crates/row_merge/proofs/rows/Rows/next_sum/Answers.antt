@@ -7,14 +7,14 @@ use Rattle.std.specs.Vec.{with_items}
 use Rattle.sdmp_laws.specs.Poly.{norm}
 use Rattle.canonical_terms.specs.View.{term_of, sum_of}
 use Rattle.chained_heap.specs.Shape.{taken_at, is_at, present, count_at}
-use Rattle.row_merge.specs.Learned.{left_to_read, TakesOut}
-use Rattle.row_merge.specs.Rows.{unread, made, entered, taken_rows}
+use Rattle.row_merge.specs.Learned.{unread, TakesOut}
+use Rattle.row_merge.specs.Rows.{made, entered, taken_rows}
 use Rattle.row_merge.proofs.Places.{empty_has_none}
 use Rattle.row_merge.proofs.Places as places
 use Rattle.row_merge.proofs.Keeps.{degrees_of, left_norm, move_rows}
 use Rattle.row_merge.proofs.Moves.{none_taken}
 use Rattle.row_merge.proofs.Counts.{taken_count, present_count, top_counts}
-use Rattle.row_merge.proofs.Sums.{left_is, sum_of_out}
+use Rattle.row_merge.proofs.Sums.{sum_of_out}
 use Rattle.row_merge.proofs.rows.Rows.next_sum.Given as given
 use Rattle.row_merge.proofs.rows.Rows.next_sum.Goals as goal
 
@@ -28,7 +28,7 @@ returns-in-None-clause-sum g c =
     let A = (sum_of g.M.Monomial.vector g.R.CoeffRing.value c.args.terms.now) in
     let B = (sum_of g.M.Monomial.vector g.R.CoeffRing.value c.args.columns.now) in
     let h = c.in-None.ensures.places in (
-      sym (left_is B c.args.self.now.reads.items A) ∙ empty_has_none g.M.Monomial.vector g.M.Monomial.order g.M.Monomial.VARS g.M.Ord.cmp B A c.args.self.now.reads.items c.args.self.now.heap c.requires.rows c.requires.terms_fall.decreasing c.requires.terms_fall.vectors c.requires.columns_fall.decreasing c.requires.columns_fall.vectors h.0,
+      empty_has_none g.M.Monomial.vector g.M.Monomial.order g.M.Monomial.VARS g.M.Ord.cmp B A c.args.self.now.reads.items c.args.self.now.heap c.requires.rows c.requires.terms_fall.decreasing c.requires.terms_fall.vectors c.requires.columns_fall.decreasing c.requires.columns_fall.vectors h.0,
       refl,
       h.1,
     )
@@ -66,7 +66,7 @@ returns-in-Some-clause-sum g c =
     let B = (sum_of g.M.Monomial.vector g.R.CoeffRing.value c.args.columns.now) in
     let rings = g.met.R.CoeffRing g.world.𝓛 g.world.𝓜 g.world.𝓡 ((λ s x. x), (λ x. x), (λ x. x), λ x. x) in
     sum_of_out g.M.Monomial.order (g.R.CoeffRing.characteristic c.args.ring) g.M.Monomial.VARS A B c.args.self.now.reads.items _ (term_of g.M.Monomial.vector g.R.CoeffRing.value c.sum_at.result) ((laws g).vars c.sum_at.result.mono) (rings.reduced c.args.ring c.sum_at.result.coef c.sum_at.ensures.belongs)
-    (transport (λ i. TakesOut g.M.Monomial.order (g.R.CoeffRing.characteristic c.args.ring) ((ap (λ rs. left_to_read B rs A) c.deref_mut.ensures.value ∙ left_is B c.args.self.now.reads.items A) i) ((left_is B c.sum_at.new.reads A ∙ ap (λ rs. unread A rs B) (sym (read_after g c))) i) (term_of g.M.Monomial.vector g.R.CoeffRing.value c.sum_at.result)) c.sum_at.ensures.out)
+    (transport (λ i. TakesOut g.M.Monomial.order (g.R.CoeffRing.characteristic c.args.ring) (unread A (c.deref_mut.ensures.value i) B) (unread A (sym (read_after g c) i) B) (term_of g.M.Monomial.vector g.R.CoeffRing.value c.sum_at.result)) c.sum_at.ensures.out)
 
 -- how many products were made
 made_is : (g : given.Over) (c : goal.After-self-1 g) → made (with_items c.args.self.now.reads c.sum_at.new.reads).items ≡ made c.args.self.now.reads.items + count_at (is_at g.M.Ord.cmp c.in-Some.mono) c.args.self.now.heap

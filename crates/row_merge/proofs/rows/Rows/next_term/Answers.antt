@@ -5,7 +5,8 @@ use Rattle.sdmp_laws.specs.Order.{Order}
 use Rattle.sdmp_laws.specs.Poly.{Term, terms}
 use Rattle.std.specs.Prelude.{option_map}
 use Rattle.canonical_terms.specs.View.{term_of, sum_of}
-use Rattle.row_merge.specs.Rows.{unread, IsNext}
+use Rattle.row_merge.specs.Rows.{IsNext}
+use Rattle.row_merge.specs.Learned.{unread}
 use Rattle.row_merge.proofs.Unread.{unread_length}
 use Rattle.row_merge.proofs.Sums.{within, next_of_sum, skip_of_sum, terms_nil}
 use Rattle.row_merge.proofs.rows.Rows.next_term.Goals as goal

@@ -1,8 +1,8 @@
 use Rattle.std.proofs.Common.{◌≡◌, ℕ, ◌+◌, ◌-◌, ◌*◌, ◌^◌, ◌<◌, ◌≤◌, None, length}
 use Rattle.sdmp_laws.specs.Poly.{terms}
 use Rattle.canonical_terms.specs.View.{sum_of}
-use Rattle.row_merge.specs.Learned.{AreRows}
-use Rattle.row_merge.specs.Rows.{unread, made, entered, IsCounted}
+use Rattle.row_merge.specs.Learned.{AreRows, unread}
+use Rattle.row_merge.specs.Rows.{made, entered, IsCounted}
 use Rattle.row_merge.proofs.rows.Rows.next_term.Given as goal
 
 abbrev pub invariant-loop-term : goal.invariant-loop-term

@@ -1,5 +1,0 @@
-use Rattle.quotient_row.proofs.Spelled.{four_are}
-use Rattle.quotient_row.proofs.calls.with_fifth.Goals as goal
-
-pub returns : goal.returns
-returns c = four_are c.args.four.now c.args.fifth c.told-four

@@ -1,0 +1,6 @@
+use Rattle.std.proofs.Common.{arith}
+use Rattle.term_ring.proofs.RuleStays.{looks_head}
+use Rattle.term_ring.proofs.ring.Writer.has_room.Goals as goal
+
+pub load-end-requires : goal.load-end-requires
+load-end-requires g c = (c.requires.1, omega (arith, c.args.ring.now.sized), looks_head _ _ _ _ _ _ _ _ c.requires.0)
