@@ -15,9 +15,9 @@ use Rattle.canonical_terms.specs.declared.term.TermOf.{TermOf}
 use Rattle.term_ring.specs.Spelling.{notes_of}
 use Rattle.term_ring.specs.Ends.{taken}
 use Rattle.term_ring.specs.declared.ring.Reader.{Reader}
-use Rattle.global_heap.specs.declared.head.HeadOf.{HeadOf}
-use Rattle.global_heap.specs.declared.head.HeadOf.TheVariants as head
-use Rattle.global_heap.specs.Heads.{plain, plain_heads, HeadBelongs}
+use Rattle.ring_heads.specs.declared.head.HeadOf.{HeadOf}
+use Rattle.ring_heads.specs.declared.head.HeadOf.TheVariants as head
+use Rattle.ring_heads.specs.Heads.{plain, plain_heads, HeadBelongs}
 use Rattle.term_ring.specs.Names.{notes_count, reader_name, IsReading}
 use Rattle.global_heap.specs.Names.{first_product, HasScripts, IsFit}
 use Rattle.global_heap.specs.Inside.{reader_notes, merge_state, HeadFits, IsMerge}

@@ -15,14 +15,14 @@ use Rattle.whole_laws.proofs.StepLemmas.{merge_emit_law}
 use Rattle.canonical_terms.specs.View.{term_of, sum_of}
 use Rattle.canonical_terms.specs.declared.term.TermOf.{TermOf}
 use Rattle.term_ring.specs.declared.ring.Reader.{Reader}
-use Rattle.global_heap.specs.declared.head.HeadOf.{HeadOf}
-use Rattle.global_heap.specs.declared.head.HeadOf.TheVariants as head
-use Rattle.global_heap.specs.Heads.{plain_heads, missing_at, HeadBelongs, IsTopSum}
+use Rattle.ring_heads.specs.declared.head.HeadOf.{HeadOf}
+use Rattle.ring_heads.specs.declared.head.HeadOf.TheVariants as head
+use Rattle.ring_heads.specs.Heads.{plain_heads, missing_at, HeadBelongs, IsTopSum}
 use Rattle.global_heap.specs.Names.{first_product}
 use Rattle.term_ring.specs.Names.{reader_name}
 use Rattle.global_heap.specs.Merges.{AllServed, Emits}
 use Rattle.global_heap.specs.Inside.{reader_notes, merge_state, merge_view, HeadFits, IsMerge}
-use Rattle.global_heap.proofs.HeadLemmas.{cleared_plain}
+use Rattle.ring_heads.proofs.HeadLemmas.{cleared_plain}
 use Rattle.global_heap.proofs.Emitting.{is_candidate}
 
 zero_yes : (x : ℤ) → x ≡ pos 0 → is_zero x ≡ true
@@ -138,7 +138,7 @@ module _ {X M E : Type 0} (cmp : M → M → Ordering) (vector : M → List ℕ)
       → spare' + length out' ≡ spare + length out → Emits (merge_view vector value rs hs out spare) (merge_view vector value rs hs' out' spare')
   emit_view rs hs hs' out out' spare spare' t top e em room = record {
     top = vector t.mono;
-    there = top.there;
+    there = top.top.there;
     state = ap (λ (h : List (HeadOf M E)). merge_state vector value rs h out') e ∙ em.state;
     rings = refl;
     tails = refl;

@@ -6,7 +6,7 @@ use Rattle.sdmp_laws.specs.Division.{AllAtOrBelow, AtOrAbove}
 use Rattle.whole_laws.specs.Notes.{Note, EndNote, NoEnd, has}
 use Rattle.whole_laws.specs.Wholes.{MergeState, head_terms, notes_of, head_of_worker, merge_emit, clear_at, IsReady, IsMergeCandidate}
 use Rattle.whole_laws.proofs.StepLemmas.{cleared}
-use Rattle.global_heap.specs.Heads.{IsTopSum}
+use Rattle.ring_heads.specs.Heads.{IsTopSum}
 use Rattle.term_ring.specs.Names.{NoneBelow}
 use Rattle.global_heap.specs.Merges.{MergeView, taken_of, IsWanting, IsServed, AllServed, Grows, Emits, IsSound}
 use Rattle.global_heap.proofs.Steps.{NoneBelow-refl}
@@ -25,10 +25,10 @@ head_in ord x (Some u ∷ heads) (suc w) t a e = head_in ord x heads w t a.1 e
 
 pub is_candidate : (s : MergeState) (p : ℕ) (t : Term) → AllServed s → IsTopSum s.product.ord p s.heads t → length t.monomial ≡ s.product.n → IsMergeCandidate s t.monomial
 unfolding IsReady head_of_worker
-is_candidate s p t served top l = record { vector = l; heads_below = top.greatest; ready = λ w h. pick w (served w h) }
+is_candidate s p t served top l = record { vector = l; heads_below = top.top.greatest; ready = λ w h. pick w (served w h) }
   where
     pick : (w : ℕ) → IsServed s w → IsReady s t.monomial w
-    pick w (inl a) = inl (a.0, a.1, head_in s.product.ord t.monomial s.heads w a.0 top.greatest a.1)
+    pick w (inl a) = inl (a.0, a.1, head_in s.product.ord t.monomial s.heads w a.0 top.top.greatest a.1)
     pick w (inr b) = inr b
 
 -- ---- fewer heads

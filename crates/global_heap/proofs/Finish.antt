@@ -12,6 +12,8 @@ use Rattle.sdmp_laws.proofs.NormLemmas.{terms_norm}
 use Rattle.sdmp_laws.proofs.DegreeLemmas.{degree_laws}
 use Rattle.sdmp_laws.proofs.TermsLemmas.{terms_poly}
 use Rattle.sdmp_laws.proofs.LongLemmas.{Over-times}
+use Rattle.ring_heads.specs.Heads.{TopFits}
+use Rattle.ring_heads.proofs.HeadLemmas.{size_within}
 use Rattle.whole_laws.specs.Notes.{Note, Product, ProductScript, script_list, Carry}
 use Rattle.whole_laws.specs.Wholes.{MergeState, MergeWhole, head_terms, notes_of, head_of_worker, merge_script, IsHead}
 use Rattle.whole_laws.proofs.NotesLemmas.{Carry-prefix}
@@ -143,7 +145,7 @@ heads_from m W w (Some t ∷ heads) h =
     omega arith
 
 -- the heads add up to no more than the norms allow
-pub heads_norm : (lim : ℕ) (s : MergeState) → MergeWhole s → IsFit lim s.product → s.product.p ≡ 0 → norm (head_terms s.heads) ≤ greatest_norm
+heads_norm : (lim : ℕ) (s : MergeState) → MergeWhole s → IsFit lim s.product → s.product.p ≡ 0 → norm (head_terms s.heads) ≤ greatest_norm
 unfolding merge_script head_of_worker
 heads_norm lim s whole fit i =
     let h = heads_from s.product s.workers 0 s.heads (λ v t l e.
@@ -154,3 +156,7 @@ heads_norm lim s whole fit i =
     let n = norms_all s.product s.workers i in
     let r = room_norm lim s.product fit i in
     omega arith
+
+-- so what stands at the greatest monomial does
+pub top_fits : (lim : ℕ) (ord : Order) (s : MergeState) → MergeWhole s → IsFit lim s.product → s.product.p ≡ 0 → TopFits ord s.heads
+top_fits lim ord s whole fit i x top = let n = heads_norm lim s whole fit i in let k = size_within x (head_terms s.heads) in omega arith

@@ -1,5 +1,3 @@
-pub mod HeadLemmas
-pub mod Summing
 pub mod Steps
 pub mod Emitting
 pub mod Counts

@@ -7,22 +7,10 @@ use Rattle.packed_monomial.specs.declared.monomial.Monomial as Monomial
 use Rattle.std.specs.declared.cmp.Ord as Ord
 use Rattle.std.specs.declared.cmp.PartialEq as PartialEq
 use Rattle.std.specs.declared.cmp.PartialOrd as PartialOrd
-use Rattle.chained_heap.proofs.Ghosts.{list_send}
-use Rattle.chained_heap.specs.contracts.heap.ChainedHeap as ChainedHeap
-use Rattle.chained_heap.specs.contracts.node.Place as Place
+use Rattle.ring_heads.proofs.Shares.{heads_send}
 use Rattle.term_ring.proofs.Shares.{reader_send}
-use Rattle.global_heap.specs.contracts.heads.Heads as Heads
 use Rattle.global_heap.specs.contracts.merge.Merge as Merge
 
-pub place_send : (M : RattleType) → IsSend M → IsSend (Place.the_row M)
-place_send M s = search sendable depth 14
-
 module _ (R M E : RattleType) (c : CoeffRing.Ghosts R.Denot E.Denot) (m : Monomial.Ghosts M.Denot) (o : Ord.Ghosts M.Denot) (e : PartialEq.Ghosts M.Denot) (p : PartialOrd.Ghosts M.Denot) where
-  pub heap_send : IsSend M → IsSend (ChainedHeap.the_row M m o e p)
-  heap_send s = search (sendable, crosses, list_send, place_send) depth 24
-
-  pub heads_send : IsSend M → IsSend E → IsSend (Heads.the_row R M E c m o e p)
-  heads_send s t = search (sendable, crosses, heap_send) depth 24
-
   pub merge_send : IsSend R → IsSend M → IsSend E → IsSend (Merge.the_row R M E c m o e p)
   merge_send r s t = search (sendable, crosses, reader_send, heads_send) depth 24

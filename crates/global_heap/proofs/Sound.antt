@@ -12,9 +12,9 @@ use Rattle.canonical_terms.specs.declared.term.TermOf.{TermOf}
 use Rattle.term_ring.specs.Ends.{taken, tail_seen, tail_loads, IsReaderOf}
 use Rattle.term_ring.specs.declared.ring.Ring.{Ring}
 use Rattle.term_ring.specs.declared.ring.Reader.{Reader}
-use Rattle.global_heap.specs.declared.head.HeadOf.{HeadOf}
-use Rattle.global_heap.specs.declared.head.HeadOf.TheVariants as head
-use Rattle.global_heap.specs.Heads.{plain, plain_heads, is_missing, HeadBelongs}
+use Rattle.ring_heads.specs.declared.head.HeadOf.{HeadOf}
+use Rattle.ring_heads.specs.declared.head.HeadOf.TheVariants as head
+use Rattle.ring_heads.specs.Heads.{plain, plain_heads, is_missing, HeadBelongs}
 use Rattle.term_ring.specs.Names.{RingName, notes_count, reader_name, ring_name, IsReading}
 use Rattle.global_heap.specs.Names.{first_product, HasScripts, IsFit}
 use Rattle.global_heap.specs.Merges.{IsWanting, IsServed, IsSound}

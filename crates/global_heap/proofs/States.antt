@@ -11,9 +11,9 @@ use Rattle.term_ring.specs.Ends.{taken}
 use Rattle.term_ring.specs.declared.note.NoteOf.{NoteOf}
 use Rattle.term_ring.specs.declared.note.NoteOf.TheVariants as note
 use Rattle.term_ring.specs.declared.ring.Reader.{Reader}
-use Rattle.global_heap.specs.declared.head.HeadOf.{HeadOf}
-use Rattle.global_heap.specs.declared.head.HeadOf.TheVariants as head
-use Rattle.global_heap.specs.Heads.{plain, plain_heads}
+use Rattle.ring_heads.specs.declared.head.HeadOf.{HeadOf}
+use Rattle.ring_heads.specs.declared.head.HeadOf.TheVariants as head
+use Rattle.ring_heads.specs.Heads.{plain, plain_heads}
 use Rattle.term_ring.specs.Names.{reader_name}
 use Rattle.global_heap.specs.Names.{first_product}
 use Rattle.global_heap.specs.Inside.{reader_notes, merge_state}

@@ -17,9 +17,9 @@ use Rattle.term_ring.specs.declared.note.NoteOf.{NoteOf}
 use Rattle.term_ring.specs.declared.note.NoteOf.TheVariants as note
 use Rattle.term_ring.specs.declared.ring.Ring.{Ring}
 use Rattle.term_ring.specs.declared.ring.Reader.{Reader}
-use Rattle.global_heap.specs.declared.head.HeadOf.{HeadOf}
-use Rattle.global_heap.specs.declared.head.HeadOf.TheVariants as head
-use Rattle.global_heap.specs.Heads.{is_missing}
+use Rattle.ring_heads.specs.declared.head.HeadOf.{HeadOf}
+use Rattle.ring_heads.specs.declared.head.HeadOf.TheVariants as head
+use Rattle.ring_heads.specs.Heads.{is_missing}
 use Rattle.term_ring.specs.Names.{RingName, reader_name, ring_name}
 use Rattle.global_heap.specs.Names.{first_product, notes_total}
 use Rattle.global_heap.specs.Merges.{IsWanting, IsStarved, Looks, TakesNote, NotMark}

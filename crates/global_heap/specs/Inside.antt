@@ -8,12 +8,12 @@ use Rattle.canonical_terms.specs.declared.term.TermOf.{TermOf}
 use Rattle.term_ring.specs.Spelling.{notes_of}
 use Rattle.term_ring.specs.Ends.{taken, tail_seen, tail_loads}
 use Rattle.term_ring.specs.declared.ring.Reader.{Reader}
-use Rattle.global_heap.specs.Heads.{plain_heads, HeadBelongs}
+use Rattle.ring_heads.specs.Heads.{plain_heads, HeadBelongs}
 use Rattle.term_ring.specs.Names.{reader_name, IsReading, notes_count}
 use Rattle.global_heap.specs.Names.{first_product, HasScripts, IsFit}
 use Rattle.global_heap.specs.Merges.{MergeView}
-use Rattle.global_heap.specs.declared.head.HeadOf.{HeadOf}
-use Rattle.global_heap.specs.declared.head.HeadOf.TheVariants as head
+use Rattle.ring_heads.specs.declared.head.HeadOf.{HeadOf}
+use Rattle.ring_heads.specs.declared.head.HeadOf.TheVariants as head
 
 module _ {X M E : Type 0} where
   abbrev pub reader_notes : (M → List ℕ) → (E → ℤ) → Reader X M E → List Note

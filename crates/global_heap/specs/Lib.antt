@@ -1,4 +1,3 @@
-pub mod Heads
 pub mod Names
 pub mod Merges
 pub mod Inside

@@ -82,10 +82,10 @@ impl<R: CoeffRing, M: Monomial> Merge<R, M> {
         ensures sound { IsSound M.LIM self.new }
         ensures emits { Emits self.old self.new }
     {
-        let Some(term) = self.heads.take_top(self.ring, steps) else {
+        let Some(term) = self.heads.take_top(self.coefficients, steps) else {
             unreachable!()
         };
-        if !self.ring.is_zero(term.coef) {
+        if !self.coefficients.is_zero(term.coef) {
             self.out.push_reserved(term);
         }
     }

@@ -3,11 +3,9 @@
 
 mod advance;
 mod answer;
-mod calls;
-mod head;
-mod heads;
 mod merge;
 mod receipt;
+mod sharing;
 
 pub use answer::Advance;
 pub use merge::Merge;

@@ -6,10 +6,10 @@ ghost use Rattle.term_ring.specs.Ends.{taken, tail_seen, tail_loads};
 ghost use Rattle.term_ring.specs.Names.{reader_name, IsReading, notes_count};
 ghost use Rattle.global_heap.specs.Names.{first_product, HasScripts, IsFit};
 
-use crate::heads::Heads;
 use canonical_terms::{Poly, Term};
 use coeff_ring::CoeffRing;
 use packed_monomial::Monomial;
+use ring_heads::Heads;
 use sdmp_laws::NoMemory;
 use std::alloc::Global;
 use std::marker::Model;
@@ -20,7 +20,7 @@ use term_ring::Reader;
 /// It holds a reader for each worker's ring, at most one term of each, which is the last that was taken, and the terms that it has emitted. These, with the terms that the workers still owe, always add up to the product, and what is emitted begins the product's list of terms.
 #[derive(Drop)]
 pub struct Merge<R: CoeffRing, M: Monomial> {
-    pub(crate) ring: R,
+    pub(crate) coefficients: R,
     pub(crate) readers: Vec<Reader<R, M>>,
     pub(crate) heads: Heads<R, M>,
     pub(crate) out: Vec<Term<R, M>>,
@@ -37,19 +37,23 @@ impl<R: CoeffRing, M: Monomial> Model for Merge<R, M> {
 
     ghost view = { λ m. merge_view M.vector R.value m.readers.items m.heads m.out.items (vec_capacity m.out - vec_len m.out) };
 
-    ghost invariant = { λ m. IsMerge M.vector R.value R.belongs M.order M.VARS M.LIM (R.characteristic m.ring) m.readers.items m.heads m.out.items m.taken };
+    ghost invariant = { λ m. IsMerge M.vector R.value R.belongs M.order M.VARS M.LIM (R.characteristic m.coefficients) m.readers.items m.heads m.out.items m.taken };
 }
 
 impl<R: CoeffRing, M: Monomial> Merge<R, M> {
     /// A merge of the readers of all workers of one product, in the order of their numbers, before anything is taken. There is no room for terms yet. The one refusal is want of memory.
-    pub fn new(alloc: Global, ring: R, readers: Vec<Reader<R, M>>) -> Result<Merge<R, M>, NoMemory>
+    pub fn new(
+        alloc: Global,
+        coefficients: R,
+        readers: Vec<Reader<R, M>>,
+    ) -> Result<Merge<R, M>, NoMemory>
         requires some { 0 < vec_len readers }
         requires few { vec_len readers < 2 ^ 32 }
         requires scripts { HasScripts (first_product (map reader_name readers.items)) (map reader_name readers.items) }
         requires fit { IsFit M.LIM (first_product (map reader_name readers.items)) }
         requires order { (first_product (map reader_name readers.items)).ord ≡ M.order }
         requires variables { (first_product (map reader_name readers.items)).n ≡ M.VARS }
-        requires modulus { (first_product (map reader_name readers.items)).p ≡ R.characteristic ring }
+        requires modulus { (first_product (map reader_name readers.items)).p ≡ R.characteristic coefficients }
         requires reading { All IsReading readers.items }
         requires nothing { All (λ r. taken r ≡ []) readers.items }
         ensures state { IfOk result (λ m. m.state ≡ merge_start (first_product (map reader_name readers.items)) (vec_len readers)) }
@@ -62,7 +66,7 @@ impl<R: CoeffRing, M: Monomial> Merge<R, M> {
             return Err(NoMemory);
         };
         Ok(Merge {
-            ring,
+            coefficients,
             readers,
             heads,
             out: Vec::new(alloc),
@@ -114,13 +118,13 @@ impl<R: CoeffRing, M: Monomial> Merge<R, M> {
         ensures product { result.list ≡ terms M.order self.state.product.p (times self.state.product.f self.state.product.g) }
     {
         let Merge {
-            ring,
+            coefficients,
             readers: _readers,
             heads: _heads,
             out,
             taken: _,
         } = self;
-        Poly::from_ordered(ring, out)
+        Poly::from_ordered(coefficients, out)
     }
 }
 

@@ -1,8 +1,8 @@
 use Rattle.std.proofs.Common.{◌≡◌, ◌∙◌, ◌+◌, ◌-◌, ◌<◌, length, subst, sym, arith, refl, true≢false, vec_len, vec_capacity}
 use Rattle.global_heap.specs.Merges.{AllServed, Emits}
 use Rattle.global_heap.specs.Inside.{merge_state, merge_view}
-use Rattle.global_heap.proofs.HeadLemmas.{eq_alike}
-use Rattle.global_heap.proofs.Finish.{heads_norm}
+use Rattle.ring_heads.proofs.HeadLemmas.{eq_alike}
+use Rattle.global_heap.proofs.Finish.{top_fits}
 use Rattle.global_heap.proofs.Sound.{is_sound}
 use Rattle.global_heap.proofs.EmitSound.{emit_merge, emit_view, pushed, emitted_zero}
 use Rattle.global_heap.proofs.merge.Merge.emit.Goals as goal
@@ -10,7 +10,7 @@ use Rattle.global_heap.proofs.merge.Merge.emit.Goals as goal
 pub take_top-requires-clause-bound : goal.take_top-requires-clause-bound
 take_top-requires-clause-bound g c κs within i =
     let k = c.self.invariant in
-    heads_norm g.M.Monomial.LIM (merge_state g.M.Monomial.vector g.R.CoeffRing.value c.self.inside.readers.items c.self.inside.heads c.self.inside.out.items) k.whole k.fit (k.modulus ∙ i)
+    top_fits g.M.Monomial.LIM _ (merge_state g.M.Monomial.vector g.R.CoeffRing.value c.self.inside.readers.items c.self.inside.heads c.self.inside.out.items) k.whole k.fit (k.modulus ∙ i)
 
 pub invariant_of-self : goal.invariant_of-self
 invariant_of-self g c =

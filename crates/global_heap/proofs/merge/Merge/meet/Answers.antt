@@ -18,7 +18,7 @@ meet-requires-clause-reader g c κs within =
     let d = c.index_mut.result.now in
     let below : w < length rs = subst (λ u. w < u.state.workers) (sym c.self.view_is) c.requires.worker in
     let at = λ (a : RingName). ap (λ u. get_or u.rings w a) c.self.view_is ∙ c.requires.ring a in
-    subst (λ q. IsReaderOf c.args.ring.now q) (sym c.index_mut.ensures.value) (reader_of g.M.Monomial.vector g.R.CoeffRing.value g.R.CoeffRing.belongs g.M.Monomial.order g.M.Monomial.VARS g.M.Monomial.LIM (g.R.CoeffRing.characteristic c.self.inside.ring) rs hs out _ w c.args.ring.now d k below at)
+    subst (λ q. IsReaderOf c.args.ring.now q) (sym c.index_mut.ensures.value) (reader_of g.M.Monomial.vector g.R.CoeffRing.value g.R.CoeffRing.belongs g.M.Monomial.order g.M.Monomial.VARS g.M.Monomial.LIM (g.R.CoeffRing.characteristic c.self.inside.coefficients) rs hs out _ w c.args.ring.now d k below at)
 
 pub invariant_of-self : goal.invariant_of-self
 invariant_of-self g c =
@@ -33,9 +33,9 @@ invariant_of-self g c =
     let r = c.meet.new.self in
     let was : get_or rs w r ≡ d = read_is rs w d r below c.index_mut.ensures.value in
     let e = c.meet.ensures in
-    let name = name_stays g.M.Monomial.vector g.R.CoeffRing.value g.R.CoeffRing.belongs g.M.Monomial.order g.M.Monomial.VARS g.M.Monomial.LIM (g.R.CoeffRing.characteristic c.self.inside.ring) rs w c.args.ring.now r at e.of r below in
+    let name = name_stays g.M.Monomial.vector g.R.CoeffRing.value g.R.CoeffRing.belongs g.M.Monomial.order g.M.Monomial.VARS g.M.Monomial.LIM (g.R.CoeffRing.characteristic c.self.inside.coefficients) rs w c.args.ring.now r at e.of r below in
     let same = e.taken ∙ ap (λ q. taken q) (sym was) in
-    still_idle g.M.Monomial.vector g.R.CoeffRing.value g.R.CoeffRing.belongs g.M.Monomial.order g.M.Monomial.VARS g.M.Monomial.LIM (g.R.CoeffRing.characteristic c.self.inside.ring) rs hs out _ w r k name same e.of.0
+    still_idle g.M.Monomial.vector g.R.CoeffRing.value g.R.CoeffRing.belongs g.M.Monomial.order g.M.Monomial.VARS g.M.Monomial.LIM (g.R.CoeffRing.characteristic c.self.inside.coefficients) rs hs out _ w r k name same e.of.0
 
 pub returns-clause-state : goal.returns-clause-state
 returns-clause-state g c =
@@ -50,7 +50,7 @@ returns-clause-state g c =
     let r = c.meet.new.self in
     let was : get_or rs w r ≡ d = read_is rs w d r below c.index_mut.ensures.value in
     let e = c.meet.ensures in
-    let name = name_stays g.M.Monomial.vector g.R.CoeffRing.value g.R.CoeffRing.belongs g.M.Monomial.order g.M.Monomial.VARS g.M.Monomial.LIM (g.R.CoeffRing.characteristic c.self.inside.ring) rs w c.args.ring.now r at e.of r below in
+    let name = name_stays g.M.Monomial.vector g.R.CoeffRing.value g.R.CoeffRing.belongs g.M.Monomial.order g.M.Monomial.VARS g.M.Monomial.LIM (g.R.CoeffRing.characteristic c.self.inside.coefficients) rs w c.args.ring.now r at e.of r below in
     let same = e.taken ∙ ap (λ q. taken q) (sym was) in
     idle_state g.M.Monomial.vector g.R.CoeffRing.value rs hs out w r r name same ∙ ap (λ u. u.state) c.self.view_is
 
@@ -67,7 +67,7 @@ returns-clause-rings g c =
     let r = c.meet.new.self in
     let was : get_or rs w r ≡ d = read_is rs w d r below c.index_mut.ensures.value in
     let e = c.meet.ensures in
-    let name = name_stays g.M.Monomial.vector g.R.CoeffRing.value g.R.CoeffRing.belongs g.M.Monomial.order g.M.Monomial.VARS g.M.Monomial.LIM (g.R.CoeffRing.characteristic c.self.inside.ring) rs w c.args.ring.now r at e.of r below in
+    let name = name_stays g.M.Monomial.vector g.R.CoeffRing.value g.R.CoeffRing.belongs g.M.Monomial.order g.M.Monomial.VARS g.M.Monomial.LIM (g.R.CoeffRing.characteristic c.self.inside.coefficients) rs w c.args.ring.now r at e.of r below in
     let same = e.taken ∙ ap (λ q. taken q) (sym was) in
     same_names g.M.Monomial.vector g.R.CoeffRing.value rs w r r name ∙ ap (λ u. u.rings) c.self.view_is
 
@@ -84,7 +84,7 @@ returns-clause-tails g c =
     let r = c.meet.new.self in
     let was : get_or rs w r ≡ d = read_is rs w d r below c.index_mut.ensures.value in
     let e = c.meet.ensures in
-    let name = name_stays g.M.Monomial.vector g.R.CoeffRing.value g.R.CoeffRing.belongs g.M.Monomial.order g.M.Monomial.VARS g.M.Monomial.LIM (g.R.CoeffRing.characteristic c.self.inside.ring) rs w c.args.ring.now r at e.of r below in
+    let name = name_stays g.M.Monomial.vector g.R.CoeffRing.value g.R.CoeffRing.belongs g.M.Monomial.order g.M.Monomial.VARS g.M.Monomial.LIM (g.R.CoeffRing.characteristic c.self.inside.coefficients) rs w c.args.ring.now r at e.of r below in
     let same = e.taken ∙ ap (λ q. taken q) (sym was) in
     subst (λ u. NoneBelow u.tails (map tail_seen (set rs w r))) c.self.view_is
     (subst (NoneBelow (map tail_seen rs)) (sym (map-set tail_seen rs w r)) (NoneBelow-set (map tail_seen rs) w (tail_seen r) (let h = e.tail in let z = ap (λ q. tail_seen q) was in let m = get_or-map tail_seen rs w r 0 below in omega arith)))

@@ -1,6 +1,0 @@
-use Rattle.std.proofs.Common.{◌≡◌, ◌<◌, ℕ, get_or}
-use Rattle.global_heap.specs.declared.head.HeadOf.TheVariants as head
-use Rattle.global_heap.proofs.heads.Heads.all_ended.Given as goal
-
-abbrev pub invariant-loop-head : goal.invariant-loop-head
-invariant-loop-head g l = (w : ℕ) → w < l.head-index → get_or l.self w head.Missing ≡ head.Ended
