@@ -10,3 +10,4 @@ pub mod Begun
 pub mod Taking
 pub mod Shares
 pub mod Examples
+pub mod MomentLemmas
