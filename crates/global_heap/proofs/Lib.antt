@@ -10,3 +10,5 @@ pub mod Begun
 pub mod Taking
 pub mod Shares
 pub mod Examples
+pub mod MomentExamples
+pub mod MomentLemmas
