@@ -1,5 +1,5 @@
 -- The product of x+1 and x-1 by two workers, in the middle of the merge.
-use Rattle.std.proofs.Common.{◌≡◌, ℕ, zero, suc, pos, negsuc, List, [], ◌∷◌, ◌++◌, Some, None, refl, sym, ap, ◌∙◌, subst, arith}
+use Rattle.std.proofs.Common.{◌≡◌, ℕ, zero, suc, pos, negsuc, List, [], ◌∷◌, Some, None, refl, sym, ◌∙◌, subst, arith}
 use Rattle.std.proofs.lemmas.Int.{ints}
 use Rattle.sdmp_laws.specs.Order.{Grlex, ◌⋅◌, degree, alike, is_below, tie_below, lex_below}
 use Rattle.sdmp_laws.specs.Poly.{Term, Same, coef, total, terms, times, term_times, row, every, part, put, keep, is_zero, term_plus, sum_over}

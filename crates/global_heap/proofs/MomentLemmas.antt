@@ -1,5 +1,5 @@
 -- What the workers owe is what their rings hold and what they haven't sent, so all parts add up to the product.
-use Rattle.std.proofs.Common.{◌≡◌, ℕ, zero, suc, ◌<◌, ℤ, List, ◌++◌, ◌+ℤ◌, sym, ap, ap₂, ◌∙◌, subst, arith}
+use Rattle.std.proofs.Common.{◌≡◌, ℕ, zero, suc, ◌<◌, ℤ, List, ◌++◌, ◌+ℤ◌, sym, ap, ◌∙◌, subst, arith}
 use Rattle.std.proofs.lemmas.List.{map-append}
 use Rattle.std.proofs.lemmas.Int.{ints}
 use Rattle.sdmp_laws.specs.Ring.{red}
@@ -13,7 +13,7 @@ use Rattle.term_ring.specs.declared.note.NoteOf.{NoteOf}
 use Rattle.term_ring.specs.Spelling.{note_of, notes_of}
 use Rattle.term_ring.specs.Carried.{Carries}
 use Rattle.term_ring.proofs.EachMoment.{at_each_moment}
-use Rattle.global_heap.specs.Merges.{MergeView, IsSound, taken_of}
+use Rattle.global_heap.specs.Merges.{MergeView, taken_of}
 use Rattle.global_heap.specs.Moments.{all_parts, RingMoment, IsRingOf, ProductAtEachMoment, ProductWhileNobodyHolds}
 
 -- a sum whose parts are split one by one
