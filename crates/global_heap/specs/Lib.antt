@@ -3,3 +3,4 @@ pub mod Merges
 pub mod Inside
 pub mod Reached
 pub mod Examples
+pub mod Moments
