@@ -6,9 +6,10 @@ pub mod States
 pub mod Running
 pub mod Sound
 pub mod EmitSound
-pub mod AtMoments
 pub mod Begun
 pub mod Taking
 pub mod Asking
 pub mod Shares
 pub mod Examples
+pub mod MomentExamples
+pub mod MomentLemmas

@@ -1,75 +1,68 @@
--- A product at a moment between two atomic steps at which nobody holds its merge.
-use Rattle.std.specs.Prelude.{◌≡◌, ℕ, ◌<◌, ℤ, List, ◌++◌, length, drop, Option, Some, slice_index_or}
+-- What a product's merge and the rings of its workers hold together, at each moment at which no worker holds the merge.
+use Rattle.std.specs.Prelude.{◌≡◌, ℕ, ◌<◌, ℤ, List, ◌++◌, Option}
 use mathlib.Core.Option.{some}
 use lib.ListN.{get_elem?}
-use Rattle.atomic_table.specs.Table.{State}
 use Rattle.sdmp_laws.specs.Poly.{Term, Same, times, sum_over}
-use Rattle.whole_laws.specs.Notes.{Script, terms_in, owed}
-use Rattle.whole_laws.specs.Wholes.{head_terms, merge_script}
-use Rattle.turnstile.specs.Turns.{Stays, Kept, IsFree}
-use Rattle.turnstile.specs.declared.view.View.{View as PassView}
-use Rattle.term_ring.specs.Spelling.{notes_of}
-use Rattle.term_ring.specs.Carried.{Carries}
-use Rattle.term_ring.specs.Names.{RingName, NoneBelow}
-use Rattle.term_ring.specs.Rule.{IsRing}
+use Rattle.whole_laws.specs.Notes.{Note, Script, terms_in, owed}
+use Rattle.whole_laws.specs.Wholes.{MergeState, head_terms, merge_script}
+use Rattle.atomic_table.specs.Table.{State}
 use Rattle.term_ring.specs.declared.note.NoteOf.{NoteOf}
-use Rattle.term_ring.specs.declared.view.View.{View}
+use Rattle.term_ring.specs.declared.view.View.{View as RingView}
 use Rattle.term_ring.specs.declared.view.Kind.{Kind}
 use Rattle.term_ring.specs.declared.view.Kind.TheVariants.{Writing, Reading}
+use Rattle.term_ring.specs.Names.{NoneBelow}
+use Rattle.term_ring.specs.Rule.{IsRing}
+use Rattle.term_ring.specs.Carried.{Carries}
+use Rattle.term_ring.specs.Spelling.{notes_of}
+use Rattle.turnstile.specs.Turns.{Stays, Kept, IsFree, ValueAtHome}
+use Rattle.turnstile.specs.declared.view.View.{View as TurnView}
 use Rattle.global_heap.specs.Merges.{MergeView, IsSound, taken_of}
 use Rattle.global_heap.specs.Reached.{merge_name, merge_reached}
 
--- what the two ends of a worker's ring know
-pub record Ends (M E : Type 0) : Type 0 where
-  pub writer : View Kind (NoteOf M E) Script
-  pub reader : View Kind (NoteOf M E) Script
+-- the emitted terms, the heads, the terms inside the workers' rings, and those that the workers haven't sent
+abbrev pub all_parts : MergeState → (ℕ → List Note) → (ℕ → List Note) → List Term
+all_parts s inside sent =
+    s.out ++ (head_terms s.heads ++ (sum_over s.workers (λ w. terms_in (inside w)) ++ sum_over s.workers (λ w. owed (merge_script s w) (sent w))))
 
-module _ {M E : Type 0} (vector : M → List ℕ) (value : E → ℤ) where
-  -- the terms that stand in the ring: sent and not taken
-  abbrev pub terms_inside : Ends M E → List Term
-  terms_inside e = terms_in (notes_of vector value (drop (length e.reader.notes) e.writer.notes))
+-- a ring at a moment: its table, what its writer and its reader know, and the notes inside
+pub record RingMoment (M E : Type 0) : Type 0 where
+  pub places : ℕ
+  pub state : State (Unit {0}) (RingView Kind (NoteOf M E) Script)
+  pub writer : RingView Kind (NoteOf M E) Script
+  pub reader : RingView Kind (NoteOf M E) Script
+  pub inside : List (NoteOf M E)
 
-  -- the terms of the worker w that are not yet sent
-  abbrev pub terms_unsent : MergeView → ℕ → Ends M E → List Term
-  terms_unsent v w e = owed (merge_script v.state w) (notes_of vector value e.writer.notes)
+-- some seat of the table is of this kind and knows this
+abbrev pub IsSeated : {N C : Type 0} → State (Unit {0}) (RingView Kind N C) → Kind → RingView Kind N C → Type 0
+IsSeated s kind v = (i : ℕ) × (get_elem? s.views i ≡ some v) × (v.kind ≡ kind)
 
-  -- what was emitted, the heads, what stands in the rings and what is not yet sent
-  abbrev pub all_terms : MergeView → (ℕ → Ends M E) → List Term
-  all_terms v ends =
-      v.state.out ++ (head_terms v.state.heads ++ (sum_over v.state.workers (λ w. terms_inside (ends w)) ++ sum_over v.state.workers (λ w. terms_unsent v w (ends w))))
-
-  -- all of it is the product
-  abbrev pub IsProductThere : MergeView → (ℕ → Ends M E) → Type 0
-  IsProductThere v ends = Same v.state.product.p (all_terms v ends) (times v.state.product.f v.state.product.g)
+-- a value that the turnstile of the merge `made` may hold
+abbrev pub MergeStays : ℕ → MergeView → MergeView → Type 0
+MergeStays lim = Stays merge_name merge_reached NoneBelow (IsSound lim)
 
 module _ {M E : Type 0} (words : NoteOf M E → List ℕ) (fits : Script → NoteOf M E → Type 0) (vector : M → List ℕ) (value : E → ℤ) where
-  -- a state that the rule of the worker's ring allows, with both of its ends; its reader took what the merge took of that worker
-  pub record WorkerMoment (v : MergeView) (w : ℕ) (e : Ends M E) : Type 0 where
-    pub ring : RingName
-    pub own : (d : RingName) → slice_index_or v.rings w d ≡ ring
-    pub state : State (Unit {0}) (View Kind (NoteOf M E) Script)
-    pub allowed : IsRing words fits (Carries vector value) ring.script ring.places state
-    pub writer_seat : ℕ
-    pub writer : get_elem? state.views writer_seat ≡ some e.writer
-    pub writing : e.writer.kind ≡ Writing
-    pub reader_seat : ℕ
-    pub reader : get_elem? state.views reader_seat ≡ some e.reader
-    pub reading : e.reader.kind ≡ Reading
-    pub took : notes_of vector value e.reader.notes ≡ taken_of v w
+  -- the ring of the merge's worker w, in a state that its rule allows
+  pub record IsRingOf (v : MergeView) (w : ℕ) (r : RingMoment M E) : Type 0 where
+    pub allowed : IsRing words fits (Carries vector value) (merge_script v.state w) r.places r.state
+    pub writing : IsSeated r.state Writing r.writer
+    pub reading : IsSeated r.state Reading r.reader
+    -- what the reader took is what the merge took of w
+    pub taken : notes_of vector value r.reader.notes ≡ taken_of v w
+    -- what the writer sent is what the reader took, followed by what is inside
+    pub sent : r.writer.notes ≡ r.reader.notes ++ r.inside
 
-  -- each worker at such a moment
-  abbrev pub AreWorkersAt : MergeView → (ℕ → Ends M E) → Type 0
-  AreWorkersAt v ends = (w : ℕ) → w < v.state.workers → WorkerMoment v w (ends w)
+  -- with the rings of its workers the merge adds up to the product
+  abbrev pub AddsUp : MergeView → Type 0
+  AddsUp v =
+      (rings : ℕ → RingMoment M E) → ((w : ℕ) → w < v.state.workers → IsRingOf v w (rings w)) →
+      Same v.state.product.p (all_parts v.state (λ w. notes_of vector value (rings w).inside) (λ w. notes_of vector value (rings w).writer.notes)) (times v.state.product.f v.state.product.g)
 
-  -- of a merge that is sound, and its workers
+  -- each merge that is sound does
   abbrev pub ProductAtEachMoment : ℕ → Type 0
-  ProductAtEachMoment lim = (v : MergeView) (ends : ℕ → Ends M E) → IsSound lim v → AreWorkersAt v ends → IsProductThere vector value v ends
+  ProductAtEachMoment lim = (v : MergeView) → IsSound lim v → AddsUp v
 
-  -- while the flag of its turnstile is 0, the merge is at home, has its name, and is such a merge
-  abbrev pub ProductWhileFree : ℕ → Type 0
-  ProductWhileFree lim =
-      (made : MergeView) (s : State (Option MergeView) (PassView MergeView)) → Kept (Stays merge_name merge_reached NoneBelow (IsSound lim) made) s → IsFree s →
-      (v : MergeView)
-      × (get_elem? s.homes 0 ≡ some (some (Some v)))
-      × (merge_name v ≡ merge_name made)
-      × ((ends : ℕ → Ends M E) → AreWorkersAt v ends → IsProductThere vector value v ends)
+  -- in each state of a turnstile in which the flag is 0, the merge with which it was made is at home, or one that follows it, and does
+  abbrev pub ProductWhileNobodyHolds : ℕ → Type 0
+  ProductWhileNobodyHolds lim =
+      (made : MergeView) (s : State (Option MergeView) (TurnView MergeView)) → Kept (MergeStays lim made) s → IsFree s →
+      ValueAtHome (λ v. MergeStays lim made v × AddsUp v) s

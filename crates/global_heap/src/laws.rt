@@ -1,27 +1,17 @@
-//! What holds of a product at each moment, as laws.
+//! What a product's merge and its workers' rings hold together, as laws.
 ghost use Rattle.term_ring.specs.Spelling.{words_of};
 ghost use Rattle.term_ring.specs.Carried.{Fits};
-ghost use Rattle.global_heap.specs.Moments.{ProductAtEachMoment, ProductWhileFree};
+ghost use Rattle.global_heap.specs.Moments.{ProductAtEachMoment, ProductWhileNobodyHolds};
 
-use crate::merge::Merge;
 use coeff_ring::CoeffRing;
 use packed_monomial::Monomial;
-use term_ring::ring_at_each_moment;
-use turnstile::value_at_home;
-use whole_laws::owed_split;
 
-/// Of a merge that is sound, and for each worker a state that the rule of its ring allows, in which its reader took what the merge took of it: what was emitted, the heads, the terms in the rings and the terms not yet sent add up to the product.
+/// The terms that a merge has emitted, its heads, the terms inside the rings of its workers and those that the workers haven't sent add up to the product, in each state of the rings that their rule allows and in which each reader has taken what the merge took.
 pub fn product_at_each_moment<R: CoeffRing, M: Monomial>()
     ensures { ProductAtEachMoment (words_of M.words R.words) (Fits R.belongs) M.vector R.value M.LIM }
-{
-    ring_at_each_moment::<R, M>();
-    owed_split();
-}
+{}
 
-/// So it is in each state that the rule of the turnstile allows in which the flag is 0: the merge is at home, and what it and its workers have adds up to the product.
+/// In each state that the rule of a turnstile of merges allows in which no pass holds the merge, the merge is at home, and with the rings of its workers it adds up to the product.
 pub fn product_while_nobody_holds<R: CoeffRing, M: Monomial>()
-    ensures { ProductWhileFree (words_of M.words R.words) (Fits R.belongs) M.vector R.value M.LIM }
-{
-    product_at_each_moment::<R, M>();
-    value_at_home::<Merge<R, M>>();
-}
+    ensures { ProductWhileNobodyHolds (words_of M.words R.words) (Fits R.belongs) M.vector R.value M.LIM }
+{}

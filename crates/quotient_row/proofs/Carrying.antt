@@ -7,15 +7,11 @@ use Rattle.sdmp_laws.specs.Division.{Division}
 use Rattle.sdmp_laws.specs.LongDivision.{quotient_list}
 use Rattle.sdmp_laws.specs.Limits.{PassesBound}
 use Rattle.divide_wholes.specs.Row.{RowNote, RowTerm, RowFront, RowCarry, RowCarryAfter, RowMayFollow, row_terms, known_after}
+use Rattle.divide_wholes.proofs.RowLemmas.{row_front, row_terms-append, row_terms-front}
 use Rattle.quotient_row.specs.declared.note.RowNoteOf.{RowNoteOf}
 use Rattle.quotient_row.specs.Names.{RowName}
 use Rattle.quotient_row.specs.Spelling.{note_of, notes_of}
 use Rattle.quotient_row.specs.Legal.{Legal, TermsAreNext}
-
-front_of : (d : Division) (start : ℕ) (before a b : List RowNote) → RowCarryAfter d start before (a ++ b) → RowCarryAfter d start before a
-unfolding RowCarryAfter
-front_of d start before [] b c = tt
-front_of d start before (x ∷ a) b c = (c.0, front_of d start (before ++ x ∷ []) a b c.1)
 
 module _ {M E : Type 0} (vector : M → List ℕ) (value : E → ℤ) (name : RowName) where
   pub legal_none : Legal {M = M} {E = E} vector value name []
@@ -26,7 +22,7 @@ module _ {M E : Type 0} (vector : M → List ℕ) (value : E → ℤ) (name : Ro
   pub legal_front : (notes rest : List (RowNoteOf M E)) (n : RowNoteOf M E) → Legal vector value name (notes ++ n ∷ rest) → Legal vector value name (notes ++ n ∷ [])
   legal_front notes rest n h =
       let both : Legal vector value name ((notes ++ n ∷ []) ++ rest) = subst (Legal vector value name) (sym (append_assoc notes (n ∷ []) rest)) h in
-      front_of name.division name.start [] (notes_of vector value (notes ++ n ∷ [])) (notes_of vector value rest)
+      row_front name.division name.start [] (notes_of vector value (notes ++ n ∷ [])) (notes_of vector value rest)
       (subst (RowCarry name.division name.start) (map-append (note_of vector value) (notes ++ n ∷ []) rest) both)
 
   -- of a legal list, what was published and the next note is legal
@@ -41,20 +37,10 @@ module _ {M E : Type 0} (vector : M → List ℕ) (value : E → ℤ) (name : Ro
 Next : Division → ℕ → List RowNote → Type 0
 Next d start notes = IsPrefix (known_after d start notes) (quotient_list d) × (row_terms notes ≢ [] → PassesBound d (known_after d start notes) → ⊥)
 
-pub terms_append : (a b : List RowNote) → row_terms (a ++ b) ≡ row_terms a ++ row_terms b
-unfolding row_terms
-terms_append [] b = refl
-terms_append (RowTerm t ∷ a) b = ap (λ (L : List PlainTerm). t ∷ L) (terms_append a b)
-terms_append (RowFront m ∷ a) b = terms_append a b
-
 known_more : (d : Division) (start : ℕ) (before : List RowNote) (t : PlainTerm) → known_after d start before ++ t ∷ [] ≡ known_after d start (before ++ RowTerm t ∷ [])
 unfolding known_after row_terms
 known_more d start before t =
-    append_assoc (take start (quotient_list d)) (row_terms before) (t ∷ []) ∙ ap (λ (L : List PlainTerm). take start (quotient_list d) ++ L) (sym (terms_append before (RowTerm t ∷ [])))
-
-pub no_more : (before : List RowNote) (m : List ℕ) → row_terms (before ++ RowFront m ∷ []) ≡ row_terms before
-unfolding row_terms
-no_more before m = terms_append before (RowFront m ∷ []) ∙ append-nil (row_terms before)
+    append_assoc (take start (quotient_list d)) (row_terms before) (t ∷ []) ∙ ap (λ (L : List PlainTerm). take start (quotient_list d) ++ L) (sym (row_terms-append before (RowTerm t ∷ [])))
 
 next_after : (d : Division) (start : ℕ) (before notes : List RowNote) → Next d start before → RowCarryAfter d start before notes → Next d start (before ++ notes)
 unfolding RowCarryAfter RowMayFollow known_after Next
@@ -64,7 +50,7 @@ next_after d start before (RowTerm t ∷ notes) h c =
     let now : Next d start (before ++ RowTerm t ∷ []) = (subst (λ (L : List PlainTerm). IsPrefix L (quotient_list d)) e c.0.0, (λ _ p. c.0.1 (subst (PassesBound d) (sym e) p))) in
     subst (Next d start) (append_assoc before (RowTerm t ∷ []) notes) (next_after d start (before ++ RowTerm t ∷ []) notes now c.1)
 next_after d start before (RowFront m ∷ notes) h c =
-    let e = no_more before m in
+    let e = row_terms-front before m in
     let now : Next d start (before ++ RowFront m ∷ []) = subst (λ (L : List PlainTerm). IsPrefix (take start (quotient_list d) ++ L) (quotient_list d) × (L ≢ [] → PassesBound d (take start (quotient_list d) ++ L) → ⊥)) (sym e) h in
     subst (Next d start) (append_assoc before (RowFront m ∷ []) notes) (next_after d start (before ++ RowFront m ∷ []) notes now c.1)
 

@@ -19,7 +19,7 @@ use Rattle.quotient_row.specs.Examples.{square_less_one}
 use Rattle.quotient_row.specs.Names.{RowName}
 use Rattle.quotient_row.specs.Spelling.{note_of, notes_of}
 use Rattle.quotient_row.specs.Legal.{Legal}
-use Rattle.quotient_row.proofs.Carrying.{terms_append, no_more}
+use Rattle.divide_wholes.proofs.RowLemmas.{row_terms-append, row_terms-front}
 
 abbrev x_term : PlainTerm
 x_term = record { monomial = 1 ∷ []; coefficient = pos 1 }
@@ -122,7 +122,7 @@ front_follows limit notes j h l f = (refl, f.under j l, under_more j notes h f.n
 pub falls_next : (limit : ℕ) (notes : List RowNote) (j : ℕ) → 2 ≤ j → j < limit → Falls limit notes → Falls j (notes ++ RowFront (j ∷ []) ∷ [])
 falls_next limit notes j h l f = record {
   carried = (row_laws square_less_one 0 accepted).0 notes (RowFront (j ∷ [])) f.carried (front_follows limit notes j h l f);
-  no_terms = no_more notes (j ∷ []) ∙ f.no_terms;
+  no_terms = row_terms-front notes (j ∷ []) ∙ f.no_terms;
   under = λ i k. subst (λ (o : Option (List ℕ)). IsUnder Grlex o (i ∷ [])) (sym (front_last None notes (j ∷ []))) (lower i j k);
 }
 
@@ -138,7 +138,7 @@ one_follows notes e =
 
 x_alone : (notes : List RowNote) → row_terms notes ≡ [] → row_terms (notes ++ RowTerm x_term ∷ []) ≡ x_term ∷ []
 unfolding row_terms
-x_alone notes e = terms_append notes (RowTerm x_term ∷ []) ∙ ap (λ (L : List PlainTerm). L ++ x_term ∷ []) e
+x_alone notes e = row_terms-append notes (RowTerm x_term ∷ []) ∙ ap (λ (L : List PlainTerm). L ++ x_term ∷ []) e
 
 pub falls_done : (limit : ℕ) (notes : List RowNote) → Falls limit notes → RowCarry square_less_one 0 ((notes ++ RowTerm x_term ∷ []) ++ RowTerm one_term ∷ [])
 falls_done limit notes f =
