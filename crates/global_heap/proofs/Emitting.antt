@@ -101,7 +101,6 @@ emits_grows a b e =
       emitted = (out.0, more, let l = ap (λ (L : List Term). length L) more in let k = length-append a.state.out out.0 in let s = e.spare in omega arith);
       tails = subst (NoneBelow a.tails) (sym e.tails) (NoneBelow-refl a.tails);
       looks = subst (NoneBelow a.looks) (sym e.looks) (NoneBelow-refl a.looks);
-      looked = λ w. let n = ap (λ (l : List ℕ). get_or l w 0) e.looks in let t = ap (λ (n : List (List Note)). length (notes_of n w)) (emits_taken a b e) in omega arith;
     }
 
 -- ---- the worker whose head was summed is wanting

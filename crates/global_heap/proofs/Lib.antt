@@ -8,6 +8,7 @@ pub mod Sound
 pub mod EmitSound
 pub mod Begun
 pub mod Taking
+pub mod Asking
 pub mod Shares
 pub mod Examples
 pub mod MomentExamples

@@ -77,7 +77,7 @@ needs_cause lim a b c w r f =
     let n = f.answer in (
       record { worker = (let l = n.0 in let e = f.workers in omega arith); wanting = n.1; first = n.2 },
       n.3,
-      (let l = n.4 in let m = r.grows.looked w in omega arith),
+      (let l = n.4 in let m = r.grows.looks.each w in omega arith),
     )
 
 ended : (s : MergeState) (w : ℕ) → head_terms s.heads ≡ [] → IsServed s w → (before : List Note) × (notes_of s.taken w ≡ before ++ EndNote ∷ [])

@@ -9,7 +9,7 @@ use Rattle.whole_laws.specs.Notes.{Note, TermNote, MarkNote, EndNote, ProductScr
 use Rattle.whole_laws.specs.Wholes.{MergeState, MergeWhole, merge_take, merge_script, notes_of as notes_at, head_of_worker}
 use Rattle.whole_laws.proofs.StepLemmas.{merge_take_law, each_worker}
 use Rattle.canonical_terms.specs.declared.term.TermOf.{TermOf}
-use Rattle.term_ring.specs.Ends.{taken, tail_seen, tail_loads, IsReaderOf}
+use Rattle.term_ring.specs.Ends.{taken, tail_seen, empty_looks, IsReaderOf}
 use Rattle.term_ring.specs.declared.ring.Ring.{Ring}
 use Rattle.term_ring.specs.declared.ring.Reader.{Reader}
 use Rattle.ring_heads.specs.declared.head.HeadOf.{HeadOf}
@@ -84,7 +84,7 @@ module _ {X M E : Type 0} (vector : M → List ℕ) (value : E → ℤ) (belongs
     few = k.few;
     rings_count = length-map rs reader_name;
     tails_count = length-map rs tail_seen;
-    looks_count = length-map rs tail_loads;
+    looks_count = length-map rs empty_looks;
     each = λ w l. wants_or_served vector value hs w (notes_at (map (reader_notes vector value) rs) w) (get_or hs w head.Missing) refl (k.each w l);
   }
 

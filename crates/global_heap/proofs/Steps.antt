@@ -48,7 +48,6 @@ Grows-refl a = record {
   emitted = ([], sym (append-nil a.state.out), omega arith);
   tails = NoneBelow-refl a.tails;
   looks = NoneBelow-refl a.looks;
-  looked = λ w. omega arith;
 }
 
 pub Grows-trans : (a b c : MergeView) → Grows a b → Grows b c → Grows a c
@@ -62,7 +61,6 @@ Grows-trans a b c x y = record {
   );
   tails = NoneBelow-trans a.tails b.tails c.tails x.tails y.tails;
   looks = NoneBelow-trans a.looks b.looks c.looks x.looks y.looks;
-  looked = λ w. let p = x.looked w in let q = y.looked w in omega arith;
 }
 
 -- ---- one note of the worker w
@@ -111,12 +109,6 @@ taken_prefix s t w v x l k =
     (each_worker (λ u. IsPrefix (notes_of s.taken u) (notes_of (set s.taken w (notes_of s.taken w ++ x ∷ [])) u)) w v
     (x ∷ [], sym (taken_here s w x l)) (λ other. ([], append-nil (notes_of s.taken v) ∙ sym (taken_there s w v _ other))))
 
-longer_here : (s t : MergeState) (w : ℕ) (x : Note) → w < length s.taken → Taking s t w x → length (notes_of t.taken w) ≡ length (notes_of s.taken w) + 1
-longer_here s t w x l k = ap (λ (ns : List (List Note)). length (notes_of ns w)) k.taken ∙ ap (λ (n : List Note). length n) (taken_here s w x l) ∙ length-append (notes_of s.taken w) (x ∷ [])
-
-same_there : (s t : MergeState) (w v : ℕ) (x : Note) → (v ≡ w → ⊥) → Taking s t w x → length (notes_of t.taken v) ≡ length (notes_of s.taken v)
-same_there s t w v x other k = ap (λ (ns : List (List Note)). length (notes_of ns v)) k.taken ∙ ap (λ (n : List Note). length n) (taken_there s w v _ other)
-
 -- a served worker stays served, and another that is wanting stays so
 stays_served : (s t : MergeState) (w v : ℕ) (x : Note) → Taking s t w x → IsServed t w → IsServed s v → IsServed t v
 stays_served s t w v x k here h =
@@ -133,19 +125,6 @@ stays_starved : (a b : MergeView) (w v : ℕ) (x : Note) → (v ≡ w → ⊥) �
 stays_starved a b w v x other l k h =
     ap (λ (ts : List ℕ). get_or ts v 0) l.tails ∙ get_or-set_other a.tails w v l.tail 0 other ∙ h ∙ ap (λ (n : List Note). length n) (sym (ap (λ (ns : List (List Note)). notes_of ns v) k.taken ∙ taken_there a.state w v _ other))
 
-looks_stay : (a b : MergeView) (w v : ℕ) → (v ≡ w → ⊥) → Looks a b w → get_or b.looks v 0 ≡ get_or a.looks v 0
-looks_stay a b w v other l = ap (λ (ts : List ℕ). get_or ts v 0) l.looks ∙ get_or-set_other a.looks w v _ 0 other
-
-looks_rise : (a b : MergeView) (w : ℕ) → w < length a.looks → Looks a b w → get_or b.looks w 0 ≡ get_or a.looks w 0 + 1
-looks_rise a b w here l = ap (λ (ts : List ℕ). get_or ts w 0) l.looks ∙ get_or-set_same a.looks w _ 0 here
-
--- a look that takes a note
-took_looked : (a b : MergeView) (w v : ℕ) (x : Note) → w < length a.state.taken → w < length a.looks → Looks a b w → Taking a.state b.state w x → get_or a.looks v 0 + length (taken_of b v) ≤ get_or b.looks v 0 + length (taken_of a v)
-took_looked a b w v x taken here l k =
-    each_worker (λ u. get_or a.looks u 0 + length (taken_of b u) ≤ get_or b.looks u 0 + length (taken_of a u)) w v
-    (let n = longer_here a.state b.state w x taken k in let m = looks_rise a b w here l in omega arith)
-    (λ other. let n = same_there a.state b.state w v x other k in let m = looks_stay a b w v other l in omega arith)
-
 -- ---- the loop that asks each wanting worker once
 pub fill_begins : (a : MergeView) → Fills a a 0 None
 fill_begins a = record { grows = Grows-refl a; out = refl; spare = refl; product = refl; workers = refl; counts = inl refl; heads = omega arith; answer = λ k l. absurd (omega arith) }
@@ -157,24 +136,22 @@ fill_served a b i o f h = record { grows = f.grows; out = f.out; spare = f.spare
     pick None g = λ k l. each_worker (λ v. v < i + 1 → IsServed b.state v) i k (λ _. h) (λ other m. g k (omega (arith, other, m))) l
     pick (Some s) g = (let l = g.0 in omega arith, g.1, g.2, g.3, g.4)
 
-looked_grows : (a b : MergeView) (w : ℕ) → Looks a b w → b.state.out ≡ a.state.out → ((v : ℕ) → IsPrefix (taken_of a v) (taken_of b v)) → ((v : ℕ) → get_or a.looks v 0 + length (taken_of b v) ≤ get_or b.looks v 0 + length (taken_of a v)) → Grows a b
-looked_grows a b w l out taken looked = record {
+looked_grows : (a b : MergeView) (w : ℕ) → Looks a b w → b.state.out ≡ a.state.out → ((v : ℕ) → IsPrefix (taken_of a v) (taken_of b v)) → Grows a b
+looked_grows a b w l out taken = record {
   rings = l.rings;
   taken = taken;
   emitted = ([], out ∙ sym (append-nil a.state.out), let s = l.spare in omega arith);
   tails = subst (NoneBelow a.tails) (sym l.tails) (NoneBelow-set a.tails w l.tail l.higher);
-  looks = subst (NoneBelow a.looks) (sym l.looks) (NoneBelow-set a.looks w (get_or a.looks w 0 + 1) (omega arith));
-  looked = looked;
+  looks = l.looks;
 }
 
 pub fill_takes : (lim : ℕ) (a b c : MergeView) (i : ℕ) (o : Option ℕ) → Fills a b i o → IsSound lim b → i < b.state.workers → Looks b c i → TakesNote b c i → Fills a c (i + 1) o
 fill_takes lim a b c i o f sound l look took =
     let k : Taking b.state c.state i took.note = subst (λ (s : MergeState). Taking b.state s i took.note) (sym took.state) (taking b.state i took.note) in
     let here : i < length b.state.taken = let n = sound.whole.taken_count in omega arith in
-    let below : i < length b.looks = let n = sound.looks_count in omega arith in
     let one = count_one b.state c.state i took.note here k in
     record {
-      grows = Grows-trans a b c f.grows (looked_grows b c i look k.out (λ v. taken_prefix b.state c.state i v took.note here k) (λ v. took_looked b c i v took.note here below look k));
+      grows = Grows-trans a b c f.grows (looked_grows b c i look k.out (λ v. taken_prefix b.state c.state i v took.note here k));
       out = k.out ∙ f.out;
       spare = look.spare ∙ f.spare;
       product = k.product ∙ f.product;
@@ -196,7 +173,7 @@ fill_takes lim a b c i o f sound l look took =
           stays_wanting b.state c.state i s took.note apart k g.1,
           (λ v m. stays_served b.state c.state i v took.note k took.served (g.2 v m)),
           stays_starved b c i s took.note apart look k g.3,
-          (let n = looks_stay b c i s apart look in let t = same_there b.state c.state i s took.note apart k in let m = g.4 in omega arith),
+          (let n = look.looks.each s in let m = g.4 in omega arith),
         )
 
 -- the first worker that was asked for nothing
@@ -204,10 +181,10 @@ abbrev pub first_starved : Option ℕ → ℕ → Option ℕ
 first_starved None i = Some i
 first_starved (Some s) i = Some s
 
-pub fill_misses : (lim : ℕ) (a b c : MergeView) (i : ℕ) (o : Option ℕ) → Fills a b i o → IsSound lim b → i < b.state.workers → Looks b c i → c.state ≡ b.state → IsStarved c i → IsWanting b.state i → Fills a c (i + 1) (first_starved o i)
-fill_misses lim a b c i o f sound l look same dry want =
+pub fill_misses : (a b c : MergeView) (i : ℕ) (o : Option ℕ) → Fills a b i o → Looks b c i → c.state ≡ b.state → IsStarved c i → FoundEmpty b c i → IsWanting b.state i → Fills a c (i + 1) (first_starved o i)
+fill_misses a b c i o f look same dry empty want =
     record {
-      grows = Grows-trans a b c f.grows (looked_grows b c i look (ap (λ (s : MergeState). s.out) same) (λ v. subst (λ (s : MergeState). IsPrefix (taken_of b v) (notes_of s.taken v)) (sym same) (prefix_refl (taken_of b v))) (λ v. let e = unmoved v in let m = higher.each v in omega arith));
+      grows = Grows-trans a b c f.grows (looked_grows b c i look (ap (λ (s : MergeState). s.out) same) (λ v. subst (λ (s : MergeState). IsPrefix (taken_of b v) (notes_of s.taken v)) (sym same) (prefix_refl (taken_of b v))));
       out = ap (λ (s : MergeState). s.out) same ∙ f.out;
       spare = look.spare ∙ f.spare;
       product = ap (λ (s : MergeState). s.product) same ∙ f.product;
@@ -220,23 +197,13 @@ fill_misses lim a b c i o f sound l look same dry want =
     unmoved : (v : ℕ) → length (taken_of c v) ≡ length (taken_of b v)
     unmoved v = ap (λ (s : MergeState). length (notes_of s.taken v)) same
 
-    higher : NoneBelow b.looks c.looks
-    higher = subst (NoneBelow b.looks) (sym look.looks) (NoneBelow-set b.looks i (get_or b.looks i 0 + 1) (omega arith))
-
-    found : FoundEmpty a c i
-    found =
-        let here : i < length b.looks = let n = sound.looks_count in omega arith in
-        let e = looks_rise b c i here look in
-        let t = unmoved i in
-        let m = f.grows.looked i in omega arith
-
     pick : (o : Option ℕ) → IsStarving a b i o → IsStarving a c (i + 1) (first_starved o i)
     pick None g = (
       omega arith,
       subst (λ (s : MergeState). IsWanting s i) (sym same) want,
       (λ k m. subst (λ (s : MergeState). IsServed s k) (sym same) (g k m)),
       dry,
-      found,
+      (let m = f.grows.looks.each i in omega arith),
     )
     pick (Some s) g =
         let apart : s ≡ i → ⊥ = λ e. let m = g.0 in omega arith in (
@@ -244,7 +211,7 @@ fill_misses lim a b c i o f sound l look same dry want =
           subst (λ (t : MergeState). IsWanting t s) (sym same) g.1,
           (λ k m. subst (λ (t : MergeState). IsServed t k) (sym same) (g.2 k m)),
           ap (λ (ts : List ℕ). get_or ts s 0) look.tails ∙ get_or-set_other b.tails i s look.tail 0 apart ∙ g.3 ∙ sym (unmoved s),
-          (let n = looks_stay b c i s apart look in let t = unmoved s in let m = g.4 in omega arith),
+          (let n = look.looks.each s in let m = g.4 in omega arith),
         )
 
 pub first_is : (o : Option ℕ) (b : Bool) (i : ℕ) → is_some o ≡ not b → b ≡ true → first_starved o i ≡ Some i

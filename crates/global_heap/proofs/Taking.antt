@@ -12,7 +12,7 @@ use Rattle.canonical_terms.specs.declared.term.TermOf.{TermOf}
 use Rattle.term_ring.specs.Spelling.{note_of, notes_of}
 use Rattle.term_ring.specs.Plain.{modulus_of}
 use Rattle.term_ring.specs.Carried.{Fits, Carries}
-use Rattle.term_ring.specs.Ends.{taken, tail_seen, tail_loads, script_in, IsReaderOf}
+use Rattle.term_ring.specs.Ends.{taken, tail_seen, empty_looks, script_in, IsReaderOf}
 use Rattle.term_ring.specs.declared.note.NoteOf.{NoteOf}
 use Rattle.term_ring.specs.declared.note.NoteOf.TheVariants as note
 use Rattle.term_ring.specs.declared.ring.Ring.{Ring}
@@ -20,11 +20,11 @@ use Rattle.term_ring.specs.declared.ring.Reader.{Reader}
 use Rattle.ring_heads.specs.declared.head.HeadOf.{HeadOf}
 use Rattle.ring_heads.specs.declared.head.HeadOf.TheVariants as head
 use Rattle.ring_heads.specs.Heads.{is_missing}
-use Rattle.term_ring.specs.Names.{RingName, reader_name, ring_name}
+use Rattle.term_ring.specs.Names.{RingName, NoneBelow, reader_name, ring_name}
 use Rattle.global_heap.specs.Names.{first_product, notes_total}
 use Rattle.global_heap.specs.Merges.{IsWanting, IsStarved, Looks, TakesNote, NotMark}
 use Rattle.global_heap.specs.Inside.{reader_notes, merge_state, merge_view, IsMerge}
-use Rattle.global_heap.proofs.Steps.{count_one, taking}
+use Rattle.global_heap.proofs.Steps.{NoneBelow-set, count_one, taking}
 use Rattle.global_heap.proofs.Counts.{count_within, few_notes, no_mark_last}
 use Rattle.global_heap.proofs.States.{same_names, one_more, term_state, end_state}
 use Rattle.global_heap.proofs.Sound.{NoEnd-more, Took, name_stays, missing_here, served_is, still}
@@ -105,15 +105,15 @@ module _ {X M E : Type 0} (vector : M → List ℕ) (value : E → ℤ) (belongs
   }
 
   -- what the views show of it
-  pub looks_at : (rs : List (Reader X M E)) (hs hs' : List (HeadOf M E)) (out : List (TermOf M E)) (w spare : ℕ) (r d : Reader X M E) → w < length rs → reader_name r ≡ reader_name (get_or rs w d) → tail_seen (get_or rs w d) ≤ tail_seen r → tail_loads r ≡ tail_loads (get_or rs w d) + 1
+  pub looks_at : (rs : List (Reader X M E)) (hs hs' : List (HeadOf M E)) (out : List (TermOf M E)) (w spare : ℕ) (r d : Reader X M E) → w < length rs → reader_name r ≡ reader_name (get_or rs w d) → tail_seen (get_or rs w d) ≤ tail_seen r → empty_looks (get_or rs w d) ≤ empty_looks r
       → Looks (merge_view vector value rs hs out spare) (merge_view vector value (set rs w r) hs' out spare) w
-  looks_at rs hs hs' out w spare r d l name higher loads = record {
+  looks_at rs hs hs' out w spare r d l name higher looks = record {
     rings = same_names vector value rs w r d name;
     spare = refl;
     tail = tail_seen r;
     tails = map-set tail_seen rs w r;
     higher = let e = lists.get_or-map tail_seen rs w d 0 l in omega arith;
-    looks = map-set tail_loads rs w r ∙ ap (λ (q : ℕ). set (map tail_loads rs) w q) (loads ∙ ap (λ (q : ℕ). q + 1) (sym (lists.get_or-map tail_loads rs w d 0 l)));
+    looks = subst (NoneBelow (map empty_looks rs)) (sym (map-set empty_looks rs w r)) (NoneBelow-set (map empty_looks rs) w (empty_looks r) (let e = lists.get_or-map empty_looks rs w d 0 l in omega arith));
   }
 
   pub takes : (rs : List (Reader X M E)) (hs : List (HeadOf M E)) (out : List (TermOf M E)) (count w spare : ℕ) (r : Reader X M E) (h : HeadOf M E) (x : Note) → IsMerge vector value belongs ord n lim p rs hs out count → IsWanting (merge_state vector value rs hs out) w → Took vector value belongs ord n lim p rs hs out w r h x
@@ -157,3 +157,8 @@ pub met_tail : {X M E : Type 0} (rs : List (Reader X M E)) (w : ℕ) (r : Reader
 met_tail rs w r l =
     let inside : w < length (set rs w r) = let e = length-set rs w r in omega arith in
     lists.get_or-map tail_seen (set rs w r) w r 0 inside ∙ ap (λ (q : Reader _ _ _). tail_seen q) (get_or-set_same rs w r r l)
+
+pub met_looks : {X M E : Type 0} (rs : List (Reader X M E)) (w : ℕ) (r : Reader X M E) → w < length rs → get_or (map empty_looks (set rs w r)) w 0 ≡ empty_looks r
+met_looks rs w r l =
+    let inside : w < length (set rs w r) = let e = length-set rs w r in omega arith in
+    lists.get_or-map empty_looks (set rs w r) w r 0 inside ∙ ap (λ (q : Reader _ _ _). empty_looks q) (get_or-set_same rs w r r l)

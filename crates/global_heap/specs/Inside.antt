@@ -6,7 +6,7 @@ use Rattle.whole_laws.specs.Wholes.{MergeState, MergeWhole, notes_of as notes_at
 use Rattle.canonical_terms.specs.View.{sum_of}
 use Rattle.canonical_terms.specs.declared.term.TermOf.{TermOf}
 use Rattle.term_ring.specs.Spelling.{notes_of}
-use Rattle.term_ring.specs.Ends.{taken, tail_seen, tail_loads}
+use Rattle.term_ring.specs.Ends.{taken, tail_seen, empty_looks}
 use Rattle.term_ring.specs.declared.ring.Reader.{Reader}
 use Rattle.ring_heads.specs.Heads.{plain_heads, HeadBelongs}
 use Rattle.term_ring.specs.Names.{reader_name, IsReading, notes_count}
@@ -36,7 +36,7 @@ module _ {X M E : Type 0} where
         state = merge_state vector value readers heads out;
         rings = map reader_name readers;
         tails = map tail_seen readers;
-        looks = map tail_loads readers;
+        looks = map empty_looks readers;
         spare = spare;
       }
 

@@ -9,7 +9,7 @@ use Rattle.global_heap.specs.Names.{first_product, HasScripts, IsFit}
 use Rattle.global_heap.specs.declared.answer.Advance.{Advance}
 use Rattle.global_heap.specs.declared.answer.Advance.TheVariants.{Done, NeedsRing, OutFull}
 
--- what the merge holds; the rings of its readers; the tail that each reader saw last, and how often it looked; and for how many more terms there is room
+-- what the merge holds; the rings of its readers; the tail that each reader saw last, and how often it looked in vain; and for how many more terms there is room
 pub record MergeView : Type 0 where
   pub state : MergeState
   pub rings : List RingName
@@ -42,9 +42,9 @@ pub record IsFirstWanting (s : MergeState) (w : ℕ) : Type 0 where
 abbrev pub IsStarved : MergeView → ℕ → Type 0
 IsStarved v w = slice_index_or v.tails w 0 ≡ length (taken_of v w)
 
--- the reader of w looked at its ring more often than it took a note of it, so a look found none
+-- the reader of w looked in vain
 abbrev pub FoundEmpty : MergeView → MergeView → ℕ → Type 0
-FoundEmpty a b w = slice_index_or a.looks w 0 + length (taken_of b w) < slice_index_or b.looks w 0 + length (taken_of a w)
+FoundEmpty a b w = slice_index_or a.looks w 0 < slice_index_or b.looks w 0
 
 -- why the merge answers
 abbrev pub IsCause : MergeView → MergeView → Advance → Type 0
@@ -52,14 +52,13 @@ IsCause a b Done = IsMergeDone b.state
 IsCause a b (NeedsRing w) = IsFirstWanting b.state w × IsStarved b w × FoundEmpty a b w
 IsCause a b OutFull = AllServed b.state × (head_terms b.state.heads ≢ []) × (b.spare ≡ 0)
 
--- notes were taken, each by a look of its own, and terms emitted, in this order
+-- notes were taken and terms emitted, in this order
 pub record Grows (a b : MergeView) : Type 0 where
   pub rings : b.rings ≡ a.rings
   pub taken : (w : ℕ) → IsPrefix (taken_of a w) (taken_of b w)
   pub emitted : (more : List Term) × (b.state.out ≡ a.state.out ++ more) × (b.spare + length more ≡ a.spare)
   pub tails : NoneBelow a.tails b.tails
   pub looks : NoneBelow a.looks b.looks
-  pub looked : (w : ℕ) → slice_index_or a.looks w 0 + length (taken_of b w) ≤ slice_index_or b.looks w 0 + length (taken_of a w)
 
 abbrev pub NotMark : Note → Type 0
 NotMark (TermNote t) = Unit {0}
@@ -73,14 +72,14 @@ pub record TakesNote (a b : MergeView) (w : ℕ) : Type 0 where
   pub served : IsServed b.state w
   pub one : NotMark note
 
--- the reader of w looked at its ring
+-- the reader of w looked for a note
 pub record Looks (a b : MergeView) (w : ℕ) : Type 0 where
   pub rings : b.rings ≡ a.rings
   pub spare : b.spare ≡ a.spare
   pub tail : ℕ
   pub tails : b.tails ≡ set a.tails w tail
   pub higher : slice_index_or a.tails w 0 ≤ tail
-  pub looks : b.looks ≡ set a.looks w (slice_index_or a.looks w 0 + 1)
+  pub looks : NoneBelow a.looks b.looks
 
 -- the heads at their greatest monomial were summed and emitted
 pub record Emits (a b : MergeView) : Type 0 where

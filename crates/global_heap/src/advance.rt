@@ -2,7 +2,7 @@
 ghost use Rattle.std.specs.Prelude.{◌≡◌, ◌≢◌, ◌<◌, ℕ, [], map, slice_index_or, IsTrue, false};
 ghost use Rattle.whole_laws.specs.Wholes.{head_terms};
 ghost use Rattle.term_ring.specs.Names.{RingName, notes_count, ring_name};
-ghost use Rattle.global_heap.specs.Merges.{IsWanting, IsServed, AllServed, IsStarved, IsCause, Grows, TakesNote, Looks, Emits, IsSound, Fills};
+ghost use Rattle.global_heap.specs.Merges.{IsWanting, IsServed, AllServed, IsStarved, FoundEmpty, IsCause, Grows, TakesNote, Looks, Emits, IsSound, Fills};
 
 use crate::answer::Advance;
 use crate::merge::Merge;
@@ -39,6 +39,7 @@ impl<R: CoeffRing, M: Monomial> Merge<R, M> {
         ensures took { IsTrue result → TakesNote self.old self.new worker }
         ensures same { result ≡ false → self.new.state ≡ self.old.state }
         ensures dry { result ≡ false → IsStarved self.new worker }
+        ensures empty { result ≡ false → FoundEmpty self.old self.new worker }
     {
         let Ok(note) = self.readers[worker].pop(ring) else {
             return false;

@@ -2,7 +2,7 @@
 ghost use Rattle.std.specs.Prelude.{◌≡◌, ◌<◌, ◌≤◌, ◌^◌, ◌↔◌, [], map, replicate, length, vec_len, IfOk, OnOk, OnErr, IsTrue, All};
 ghost use Rattle.sdmp_laws.specs.Poly.{terms, times};
 ghost use Rattle.whole_laws.specs.Wholes.{merge_start, IsMergeDone};
-ghost use Rattle.term_ring.specs.Ends.{taken, tail_seen, tail_loads};
+ghost use Rattle.term_ring.specs.Ends.{taken, tail_seen, empty_looks};
 ghost use Rattle.term_ring.specs.Names.{reader_name, IsReading, notes_count};
 ghost use Rattle.global_heap.specs.Names.{first_product, HasScripts, IsFit};
 
@@ -59,7 +59,7 @@ impl<R: CoeffRing, M: Monomial> Merge<R, M> {
         ensures state { IfOk result (λ m. m.state ≡ merge_start (first_product (map reader_name readers.items)) (vec_len readers)) }
         ensures rings { IfOk result (λ m. m.rings ≡ map reader_name readers.items) }
         ensures tails { IfOk result (λ m. m.tails ≡ map tail_seen readers.items) }
-        ensures looks { IfOk result (λ m. m.looks ≡ map tail_loads readers.items) }
+        ensures looks { IfOk result (λ m. m.looks ≡ map empty_looks readers.items) }
         ensures spare { IfOk result (λ m. m.spare ≡ 0) }
     {
         let Ok(heads) = Heads::new(alloc, readers.len() as u32) else {

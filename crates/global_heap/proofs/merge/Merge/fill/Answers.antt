@@ -36,12 +36,9 @@ loop-worker-preserved-then-take_note g c =
 pub loop-worker-preserved : goal.loop-worker-preserved
 loop-worker-preserved g c =
     let inv = c.loop-worker.invariant in
-    let long = ap (λ rs. length rs) c.requires.rings ∙ length-map c.args.rings.now ring_name in
-    let count = c.requires.sound.rings_count in
-    let same = inv.fills.workers in
-    let below : c.loop-worker.worker < c.loop-worker.self.state.workers = omega (arith, long, count, same, c.loop-worker-test.true) in
-    let asked = fill_misses g.M.Monomial.LIM c.args.self.now c.loop-worker.self c.take_note.new.self c.loop-worker.worker c.loop-worker.starved inv.fills inv.sound below c.take_note.ensures.looks
-    (c.take_note.ensures.same c.if-take_note.false) (c.take_note.ensures.dry c.if-take_note.false) (c.wants.ensures.yes c.if-not-wants.false) in
+    let no = c.if-take_note.false in
+    let asked = fill_misses c.args.self.now c.loop-worker.self c.take_note.new.self c.loop-worker.worker c.loop-worker.starved inv.fills c.take_note.ensures.looks
+    (c.take_note.ensures.same no) (c.take_note.ensures.dry no) (c.take_note.ensures.empty no) (c.wants.ensures.yes c.if-not-wants.false) in
     let i = c.loop-worker.worker in
     let o = c.loop-worker.starved in
     record {
