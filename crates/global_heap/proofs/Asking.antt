@@ -1,12 +1,15 @@
 -- A worker's reader is asked for a note, or meets its writer, and is put back.
-use Rattle.std.proofs.Common.{◌≡◌, ℕ, zero, suc, ◌+◌, ◌<◌, ◌≤◌, ◌^◌, ℤ, false, List, [], ◌∷◌, ◌++◌, length, get_or, set, map, refl, sym, ap, ◌∙◌, subst, arith}
+use Rattle.std.proofs.Common.{◌≡◌, ℕ, ◌+◌, ◌<◌, ◌≤◌, ◌^◌, ℤ, false, List, [], ◌∷◌, ◌++◌, length, get_or, set, map, refl, sym, ap, ◌∙◌, subst, arith}
 use Rattle.std.proofs.lemmas.List as lists
 use Rattle.std.proofs.lemmas.List.{map-set}
+use mathlib.Core.List.{IsPrefix}
 use Rattle.sdmp_laws.specs.Order.{Order}
-use Rattle.whole_laws.specs.Notes.{Note, TermNote, EndNote}
-use Rattle.whole_laws.specs.Wholes.{notes_of as notes_at}
+use Rattle.whole_laws.specs.Notes.{Note, TermNote, EndNote, Script, ProductScript, Carry, terms_in, owed}
+use Rattle.whole_laws.specs.Wholes.{MergeState, merge_script}
+use Rattle.whole_laws.proofs.OwedLemmas.{owed_split}
 use Rattle.canonical_terms.specs.View.{term_of}
 use Rattle.canonical_terms.specs.declared.term.TermOf.{TermOf}
+use Rattle.term_ring.specs.Spelling.{notes_of}
 use Rattle.term_ring.specs.Carried.{Fits, Carries}
 use Rattle.term_ring.specs.Ends.{taken, tail_seen, empty_looks, script_in, IsReaderOf}
 use Rattle.term_ring.specs.Names.{RingName, NoneBelow, reader_name, ring_name}
@@ -17,18 +20,29 @@ use Rattle.term_ring.specs.declared.ring.Reader.{Reader}
 use Rattle.ring_heads.specs.declared.head.HeadOf.{HeadOf}
 use Rattle.ring_heads.specs.declared.head.HeadOf.TheVariants as head
 use Rattle.ring_heads.specs.Heads.{is_missing}
-use Rattle.global_heap.specs.Merges.{MergeView, IsWanting, IsStarved, FoundEmpty, Looks, TakesNote, NotMark, IsSound}
-use Rattle.global_heap.specs.Inside.{reader_notes, merge_state, merge_view, IsMerge}
+use Rattle.global_heap.specs.Merges.{MergeView, IsWanting, IsStarved, FoundEmpty, Looks, TakesNote, NotMark, IsSound, IsOwed, taken_of}
+use Rattle.global_heap.specs.Names.{first_product}
+use Rattle.global_heap.specs.Inside.{merge_state, merge_view, IsMerge}
 use Rattle.global_heap.proofs.Steps.{NoneBelow-set}
 use Rattle.global_heap.proofs.States.{idle_state, same_names}
 use Rattle.global_heap.proofs.Sound.{is_sound, missing_here, Took, still, still_idle, reader_of, name_stays}
-use Rattle.global_heap.proofs.Taking.{read_is, no_mark_taken, count_room, took_term, took_end, looks_at, takes, starves, met_looks}
+use Rattle.global_heap.proofs.Taking.{read_is, no_mark_taken, count_room, took_term, took_end, looks_at, takes, starves, met_prefix, met_count, met_tail, met_looks, ring_script}
 
 -- what a view shows where nothing was taken
 pub record Idle (lim w : ℕ) (v u : MergeView) : Type 0 where
   pub sound : IsSound lim u
   pub state : u.state ≡ v.state
   pub looks : Looks v u w
+
+-- what it shows after the reader met its writer, which had sent these notes, so many, and has seen this head
+pub record Met (w : ℕ) (v u : MergeView) (sent : List Note) (count head : ℕ) : Type 0 where
+  pub state : u.state ≡ v.state
+  pub rings : u.rings ≡ v.rings
+  pub spare : u.spare ≡ v.spare
+  pub tails : NoneBelow v.tails u.tails
+  pub prefix : IsPrefix (taken_of u w) sent
+  pub reader_seen : count ≤ get_or u.tails w 0
+  pub writer_seen : length (taken_of u w) ≤ head
 
 -- and where a note was
 pub record Found (Kept : Type 0) (lim w : ℕ) (v u : MergeView) : Type 0 where
@@ -79,6 +93,33 @@ module _ {X M E : Type 0} {vector : M → List ℕ} {value : E → ℤ} {belongs
         looks = subst (λ (u : MergeView). Looks u (merge_view vector value (set rs w r) hs out spare) w) view
             (looks_at vector value belongs ord n lim p rs hs hs out w spare r r a.below (name r of) (let z = ap (λ (q : Reader X M E). tail_seen q) (here r) in omega arith) (let z = ap (λ (q : Reader X M E). empty_looks q) (here r) in omega arith));
       }
+
+      -- the reader met its writer
+      pub met : {v : MergeView} {spare head : ℕ} {xs : List (NoteOf M E)} (r : Reader X M E) → merge_view vector value rs hs out spare ≡ v → IsReaderOf ring r → taken r ≡ taken d → tail_seen d ≤ tail_seen r → IsPrefix (taken r) xs → length (taken r) ≤ head → length xs ≤ tail_seen r
+          → Met w v (merge_view vector value (set rs w r) hs out spare) (notes_of vector value xs) (length xs) head
+      met {spare = spare} {xs = xs} r view of e tail begins head seen = record {
+        state = idle_state vector value rs hs out w r r (name r of) (same r e) ∙ ap (λ (u : MergeView). u.state) view;
+        rings = same_names vector value rs w r r (name r of) ∙ ap (λ (u : MergeView). u.rings) view;
+        spare = ap (λ (u : MergeView). u.spare) view;
+        tails = subst (λ (u : MergeView). NoneBelow u.tails (map tail_seen (set rs w r))) view
+            (subst (NoneBelow (map tail_seen rs)) (sym (map-set tail_seen rs w r)) (NoneBelow-set (map tail_seen rs) w (tail_seen r) (let z = ap (λ (q : Reader X M E). tail_seen q) (here r) in let m = lists.get_or-map tail_seen rs w r 0 a.below in omega arith)));
+        prefix = met_prefix vector value rs w r xs a.below begins;
+        reader_seen = let m = met_tail rs w r a.below in omega arith;
+        writer_seen = let m = met_count vector value rs w r a.below in omega arith;
+      }
+
+      pub met_owed : {v : MergeView} {spare : ℕ} {xs : List (NoteOf M E)} (r : Reader X M E) → merge_view vector value rs hs out spare ≡ v → IsReaderOf ring r → taken r ≡ taken d → IsPrefix (taken r) xs → Carries vector value (script_in ring) xs
+          → IsOwed (merge_view vector value (set rs w r) hs out spare) w (notes_of vector value xs)
+      unfolding merge_script
+      met_owed {spare = spare} {xs = xs} r view of e begins carries =
+          let u : MergeView = merge_view vector value (set rs w r) hs out spare in
+          let script : Script = ProductScript (first_product (map reader_name rs)) (length rs) w in
+          let still : merge_state vector value (set rs w r) hs out ≡ merge_state vector value rs hs out = idle_state vector value rs hs out w r r (name r of) (same r e) in
+          let own : merge_script u.state w ≡ script = ap (λ (s : MergeState). ProductScript s.product s.workers w) still in
+          let q : IsPrefix (taken_of u w) (notes_of vector value xs) = met_prefix vector value rs w r xs a.below begins in
+          let mine : Carry script (notes_of vector value xs) = subst (λ (s : Script). Carry s (notes_of vector value xs)) (ring_script vector value belongs ord n lim p rs hs out count w ring a.kept a.below a.at) carries in
+          let whole : Carry (merge_script u.state w) (taken_of u w ++ q.0) = subst (λ (ns : List Note). Carry (merge_script u.state w) ns) (sym q.1) (subst (λ (s : Script). Carry s (notes_of vector value xs)) (sym own) mine) in
+          (q.0, sym q.1, owed_split (merge_script u.state w) (taken_of u w) q.0 whole ∙ ap (λ (ns : List Note). terms_in q.0 ++ owed (merge_script u.state w) ns) q.1)
 
       pub dry : {v : MergeView} {spare : ℕ} (r : Reader X M E) → merge_view vector value rs hs out spare ≡ v → taken r ≡ taken d → tail_seen r ≡ length (taken d) → IsStarved (merge_view vector value (set rs w r) hs out spare) w
       dry {spare = spare} r view e z = starves vector value belongs ord n lim p rs hs out w spare r r a.below (same r e) (z ∙ ap (λ (q : Reader X M E). length (taken q)) (sym (here r)))

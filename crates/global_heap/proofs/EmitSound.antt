@@ -1,5 +1,5 @@
 -- A merge stays as it is to be when it emits.
-use Rattle.std.proofs.Common.{◌≡◌, ◌≢◌, ℕ, ◌+◌, ◌<◌, ℤ, pos, Bool, true, false, cond, List, [], ◌∷◌, ◌++◌, length, get_or, map, All, refl, sym, ap, ◌∙◌, subst, arith}
+use Rattle.std.proofs.Common.{◌≡◌, ◌≢◌, ℕ, ◌+◌, ◌<◌, ℤ, pos, Bool, true, false, cond, List, [], ◌∷◌, ◌++◌, length, length-append, get_or, map, All, refl, sym, ap, ◌∙◌, subst, arith}
 use Rattle.std.specs.declared.cmp.Ordering.{Ordering}
 use Rattle.std.specs.Ordering.{is_eq}
 use Rattle.std.proofs.lemmas.List.{length-map, map-append}
@@ -20,10 +20,11 @@ use Rattle.ring_heads.specs.declared.head.HeadOf.TheVariants as head
 use Rattle.ring_heads.specs.Heads.{plain_heads, missing_at, HeadBelongs, IsTopSum}
 use Rattle.global_heap.specs.Names.{first_product}
 use Rattle.term_ring.specs.Names.{reader_name}
-use Rattle.global_heap.specs.Merges.{AllServed, Emits}
+use Rattle.global_heap.specs.Merges.{MergeView, AllServed, Emits, IsSound}
 use Rattle.global_heap.specs.Inside.{reader_notes, merge_state, merge_view, HeadFits, IsMerge}
 use Rattle.ring_heads.proofs.HeadLemmas.{cleared_plain}
 use Rattle.global_heap.proofs.Emitting.{is_candidate}
+use Rattle.global_heap.proofs.Sound.{is_sound}
 
 zero_yes : (x : ℤ) → x ≡ pos 0 → is_zero x ≡ true
 unfolding is_zero
@@ -61,12 +62,6 @@ module _ {M E : Type 0} (cmp : M → M → Ordering) (belongs : E → Type 0) wh
       subst (HeadBelongs belongs) (sym (lists.get_or-map (missing_at cmp x) hs k d d inside)) (belongs_cleared x (get_or hs k d) (a k d inside))
 
 module _ {X M E : Type 0} (cmp : M → M → Ordering) (vector : M → List ℕ) (value : E → ℤ) (belongs : ℕ → E → Type 0) (ord : Order) (n lim p : ℕ) (law : (a b : M) → is_eq (cmp a b) ≡ alike (vector a) (vector b)) where
-  State : List (Reader X M E) → List (HeadOf M E) → List (TermOf M E) → MergeState
-  State rs hs out = merge_state vector value rs hs out
-
-  Kept : List (Reader X M E) → List (HeadOf M E) → List (TermOf M E) → ℕ → Type 0
-  Kept rs hs out count = IsMerge vector value belongs ord n lim p rs hs out count
-
   sum_is : (rs : List (Reader X M E)) (hs : List (HeadOf M E)) (out : List (TermOf M E)) (count : ℕ) (t : TermOf M E) → IsMerge vector value belongs ord n lim p rs hs out count → IsTopSum ord p (plain_heads vector value hs) (term_of vector value t)
       → coef (first_product (map reader_name rs)).p (head_terms (plain_heads vector value hs)) (vector t.mono) ≡ value t.coef
   sum_is rs hs out count t k top = ap (λ (q : ℕ). coef q (head_terms (plain_heads vector value hs)) (vector t.mono)) k.modulus ∙ sym top.sum
@@ -95,19 +90,19 @@ module _ {X M E : Type 0} (cmp : M → M → Ordering) (vector : M → List ℕ)
       λ i. record s { out = (pushed ∙ sym (ap (λ (b : Bool). cond b s.out more) some)) i; heads = cleared_plain vector value cmp t.mono law hs i }
 
   -- what was emitted
-  pub record Emitted (rs : List (Reader X M E)) (hs : List (HeadOf M E)) (out out' : List (TermOf M E)) (t : TermOf M E) : Type 0 where
-    pub state : merge_state vector value rs (map (missing_at cmp t.mono) hs) out' ≡ merge_emit (merge_state vector value rs hs out) (vector t.mono)
-    pub belongs_out : All (λ u. belongs p u.coef) out'
+  record Emitted (rs : List (Reader X M E)) (hs : List (HeadOf M E)) (out out' : List (TermOf M E)) (t : TermOf M E) : Type 0 where
+    state : merge_state vector value rs (map (missing_at cmp t.mono) hs) out' ≡ merge_emit (merge_state vector value rs hs out) (vector t.mono)
+    belongs_out : All (λ u. belongs p u.coef) out'
 
-  pub emitted_zero : (rs : List (Reader X M E)) (hs : List (HeadOf M E)) (out : List (TermOf M E)) (count : ℕ) (t : TermOf M E) → IsMerge vector value belongs ord n lim p rs hs out count → IsTopSum ord p (plain_heads vector value hs) (term_of vector value t)
+  emitted_zero : (rs : List (Reader X M E)) (hs : List (HeadOf M E)) (out : List (TermOf M E)) (count : ℕ) (t : TermOf M E) → IsMerge vector value belongs ord n lim p rs hs out count → IsTopSum ord p (plain_heads vector value hs) (term_of vector value t)
       → value t.coef ≡ pos 0 → Emitted rs hs out out t
   emitted_zero rs hs out count t k top z = record { state = zero_state rs hs out count t k top z; belongs_out = k.out_belongs }
 
-  pub emitted_more : (rs : List (Reader X M E)) (hs : List (HeadOf M E)) (out : List (TermOf M E)) (count : ℕ) (t : TermOf M E) → IsMerge vector value belongs ord n lim p rs hs out count → IsTopSum ord p (plain_heads vector value hs) (term_of vector value t)
+  emitted_more : (rs : List (Reader X M E)) (hs : List (HeadOf M E)) (out : List (TermOf M E)) (count : ℕ) (t : TermOf M E) → IsMerge vector value belongs ord n lim p rs hs out count → IsTopSum ord p (plain_heads vector value hs) (term_of vector value t)
       → value t.coef ≢ pos 0 → belongs p t.coef → Emitted rs hs out (out ++ t ∷ []) t
   emitted_more rs hs out count t k top z b = record { state = more_state rs hs out count t k top z; belongs_out = All-push (λ u. belongs p u.coef) out t k.out_belongs b }
 
-  pub emit_keeps : (rs : List (Reader X M E)) (hs : List (HeadOf M E)) (out out' : List (TermOf M E)) (count : ℕ) (t : TermOf M E) → IsMerge vector value belongs ord n lim p rs hs out count → IsTopSum ord p (plain_heads vector value hs) (term_of vector value t)
+  emit_keeps : (rs : List (Reader X M E)) (hs : List (HeadOf M E)) (out out' : List (TermOf M E)) (count : ℕ) (t : TermOf M E) → IsMerge vector value belongs ord n lim p rs hs out count → IsTopSum ord p (plain_heads vector value hs) (term_of vector value t)
       → AllServed (merge_state vector value rs hs out) → length (vector t.mono) ≡ n → Emitted rs hs out out' t → IsMerge vector value belongs ord n lim p rs (map (missing_at cmp t.mono) hs) out' count
   emit_keeps rs hs out out' count t k top served long e =
       let s : MergeState = merge_state vector value rs hs out in
@@ -129,24 +124,39 @@ module _ {X M E : Type 0} (cmp : M → M → Ordering) (vector : M → List ℕ)
         counted = k.counted;
       }
 
-  -- the same, with the fields as they were found
-  pub emit_merge : (rs : List (Reader X M E)) (hs hs' : List (HeadOf M E)) (out out' : List (TermOf M E)) (count : ℕ) (t : TermOf M E) → IsMerge vector value belongs ord n lim p rs hs out count → IsTopSum ord p (plain_heads vector value hs) (term_of vector value t)
-      → AllServed (merge_state vector value rs hs out) → length (vector t.mono) ≡ n → hs' ≡ map (missing_at cmp t.mono) hs → Emitted rs hs out out' t → IsMerge vector value belongs ord n lim p rs hs' out' count
-  emit_merge rs hs hs' out out' count t k top served long e em = subst (λ (h : List (HeadOf M E)). IsMerge vector value belongs ord n lim p rs h out' count) (sym e) (emit_keeps rs hs out out' count t k top served long em)
+  -- what a merge is once the heads at t's monomial were summed and emitted, and what its view shows
+  pub record Emission (rs : List (Reader X M E)) (hs' : List (HeadOf M E)) (out' : List (TermOf M E)) (count spare' : ℕ) (v : MergeView) : Type 0 where
+    pub kept : IsMerge vector value belongs ord n lim p rs hs' out' count
+    pub sound : IsSound lim (merge_view vector value rs hs' out' spare')
+    pub emits : Emits v (merge_view vector value rs hs' out' spare')
 
-  pub emit_view : (rs : List (Reader X M E)) (hs hs' : List (HeadOf M E)) (out out' : List (TermOf M E)) (spare spare' : ℕ) (t : TermOf M E) → IsTopSum ord p (plain_heads vector value hs) (term_of vector value t) → hs' ≡ map (missing_at cmp t.mono) hs → Emitted rs hs out out' t
-      → spare' + length out' ≡ spare + length out → Emits (merge_view vector value rs hs out spare) (merge_view vector value rs hs' out' spare')
-  emit_view rs hs hs' out out' spare spare' t top e em room = record {
-    top = vector t.mono;
-    there = top.top.there;
-    state = ap (λ (h : List (HeadOf M E)). merge_state vector value rs h out') e ∙ em.state;
-    rings = refl;
-    tails = refl;
-    looks = refl;
-    spare = let a = length-map out (term_of vector value) in let b = length-map out' (term_of vector value) in omega arith;
-  }
+  emission : (rs : List (Reader X M E)) (hs hs' : List (HeadOf M E)) (out out' : List (TermOf M E)) (count spare spare' : ℕ) (v : MergeView) (t : TermOf M E) → IsMerge vector value belongs ord n lim p rs hs out count → merge_view vector value rs hs out spare ≡ v → AllServed v.state
+      → IsTopSum ord p (plain_heads vector value hs) (term_of vector value t) → length (vector t.mono) ≡ n → hs' ≡ map (missing_at cmp t.mono) hs → spare' + length out' ≡ spare + length out → Emitted rs hs out out' t → Emission rs hs' out' count spare' v
+  emission rs hs hs' out out' count spare spare' v t k view served top long e room em =
+      let served' : AllServed (merge_state vector value rs hs out) = subst (λ (u : MergeView). AllServed u.state) (sym view) served in
+      let kept : IsMerge vector value belongs ord n lim p rs hs' out' count = subst (λ (h : List (HeadOf M E)). IsMerge vector value belongs ord n lim p rs h out' count) (sym e) (emit_keeps rs hs out out' count t k top served' long em) in
+      record {
+        kept = kept;
+        sound = is_sound vector value belongs ord n lim p rs hs' out' count spare' kept;
+        emits = subst (λ (u : MergeView). Emits u (merge_view vector value rs hs' out' spare')) view (record {
+          top = vector t.mono;
+          there = top.top.there;
+          state = ap (λ (h : List (HeadOf M E)). merge_state vector value rs h out') e ∙ em.state;
+          rings = refl;
+          tails = refl;
+          looks = refl;
+          spare = let a = length-map out (term_of vector value) in let b = length-map out' (term_of vector value) in omega arith;
+        });
+      }
 
-  -- the vector that was pushed
-  pub pushed : (rs : List (Reader X M E)) (hs : List (HeadOf M E)) (out out' : List (TermOf M E)) (count : ℕ) (t : TermOf M E) → IsMerge vector value belongs ord n lim p rs hs out count → IsTopSum ord p (plain_heads vector value hs) (term_of vector value t)
-      → value t.coef ≢ pos 0 → belongs p t.coef → out' ≡ out ++ t ∷ [] → Emitted rs hs out out' t
-  pushed rs hs out out' count t k top z b e = subst (λ (o : List (TermOf M E)). Emitted rs hs out o t) (sym e) (emitted_more rs hs out count t k top z b)
+  -- the sum is not zero and was pushed
+  pub pushed : (rs : List (Reader X M E)) (hs hs' : List (HeadOf M E)) (out out' : List (TermOf M E)) (count spare spare' : ℕ) (v : MergeView) (t : TermOf M E) → IsMerge vector value belongs ord n lim p rs hs out count → merge_view vector value rs hs out spare ≡ v → AllServed v.state
+      → IsTopSum ord p (plain_heads vector value hs) (term_of vector value t) → length (vector t.mono) ≡ n → hs' ≡ map (missing_at cmp t.mono) hs → value t.coef ≢ pos 0 → belongs p t.coef → out' ≡ out ++ t ∷ [] → spare' + 1 ≡ spare → Emission rs hs' out' count spare' v
+  pushed rs hs hs' out out' count spare spare' v t k view served top long e z b o room =
+      emission rs hs hs' out out' count spare spare' v t k view served top long e (let l = ap (λ (L : List (TermOf M E)). length L) o in let a = length-append out (t ∷ []) in omega arith)
+      (subst (λ (L : List (TermOf M E)). Emitted rs hs out L t) (sym o) (emitted_more rs hs out count t k top z b))
+
+  -- it is zero
+  pub passed : (rs : List (Reader X M E)) (hs hs' : List (HeadOf M E)) (out : List (TermOf M E)) (count spare : ℕ) (v : MergeView) (t : TermOf M E) → IsMerge vector value belongs ord n lim p rs hs out count → merge_view vector value rs hs out spare ≡ v → AllServed v.state
+      → IsTopSum ord p (plain_heads vector value hs) (term_of vector value t) → length (vector t.mono) ≡ n → hs' ≡ map (missing_at cmp t.mono) hs → value t.coef ≡ pos 0 → Emission rs hs' out count spare v
+  passed rs hs hs' out count spare v t k view served top long e z = emission rs hs hs' out out count spare spare v t k view served top long e refl (emitted_zero rs hs out count t k top z)

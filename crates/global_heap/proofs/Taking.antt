@@ -36,13 +36,6 @@ read_is (y ∷ ys) zero d x l e = sym e
 read_is (y ∷ ys) (suc w) d x l e = read_is ys w d x (omega arith) e
 
 module _ {X M E : Type 0} (vector : M → List ℕ) (value : E → ℤ) (belongs : ℕ → E → Type 0) (ord : Order) (n lim p : ℕ) where
-  abbrev Kept : List (Reader X M E) → List (HeadOf M E) → List (TermOf M E) → ℕ → Type 0
-  Kept rs hs out count = IsMerge vector value belongs ord n lim p rs hs out count
-
-  -- the ring is that of the worker
-  abbrev AtRing : List (Reader X M E) → ℕ → Ring X M E → Type 0
-  AtRing rs w ring = (a : RingName) → get_or (map reader_name rs) w a ≡ ring_name ring
-
   pub ring_script : (rs : List (Reader X M E)) (hs : List (HeadOf M E)) (out : List (TermOf M E)) (count w : ℕ) (ring : Ring X M E) → IsMerge vector value belongs ord n lim p rs hs out count → w < length rs → ((a : RingName) → get_or (map reader_name rs) w a ≡ ring_name ring)
       → script_in ring ≡ ProductScript (first_product (map reader_name rs)) (length rs) w
   ring_script rs hs out count w ring k l is =

@@ -2,8 +2,8 @@
 use Rattle.std.specs.Prelude.{◌≡◌, ◌≢◌, ℕ, ◌+◌, ◌<◌, ◌≤◌, ◌⊎◌, ◌^◌, List, [], ◌∷◌, ◌++◌, length, set, true, Option, Some, None, slice_index_or}
 use mathlib.Core.List.{IsPrefix}
 use Rattle.sdmp_laws.specs.Poly.{Term}
-use Rattle.whole_laws.specs.Notes.{Note, TermNote, MarkNote, EndNote, NoEnd, has}
-use Rattle.whole_laws.specs.Wholes.{MergeState, MergeWhole, IsMergeDone, merge_take, merge_emit, head_terms, notes_of, head_of_worker}
+use Rattle.whole_laws.specs.Notes.{Note, TermNote, MarkNote, EndNote, NoEnd, has, terms_in, owed}
+use Rattle.whole_laws.specs.Wholes.{MergeState, MergeWhole, IsMergeDone, merge_take, merge_emit, merge_script, head_terms, notes_of, head_of_worker}
 use Rattle.term_ring.specs.Names.{RingName, NoneBelow, notes_count}
 use Rattle.global_heap.specs.Names.{first_product, HasScripts, IsFit}
 use Rattle.global_heap.specs.declared.answer.Advance.{Advance}
@@ -20,6 +20,11 @@ pub record MergeView : Type 0 where
 -- the notes taken of the worker w
 abbrev pub taken_of : MergeView → ℕ → List Note
 taken_of v w = notes_of v.state.taken w
+
+-- the worker w sent what the merge took of it, followed by what is inside its ring; what the merge still owes of it is the terms inside and those that it hasn't sent
+abbrev pub IsOwed : MergeView → ℕ → List Note → Type 0
+IsOwed v w sent =
+    (inside : List Note) × (sent ≡ taken_of v w ++ inside) × (owed (merge_script v.state w) (taken_of v w) ≡ terms_in inside ++ owed (merge_script v.state w) sent)
 
 -- the worker w has neither a head nor its End
 abbrev pub IsWanting : MergeState → ℕ → Type 0

@@ -3,10 +3,11 @@ ghost use Rattle.std.specs.Prelude.{◌≡◌, ◌+◌, ◌<◌, ◌≤◌, ℕ,
 ghost use mathlib.Core.List.{IsPrefix};
 ghost use Rattle.sdmp_laws.specs.Poly.{Term};
 ghost use Rattle.whole_laws.specs.Wholes.{MergeWhole};
+ghost use Rattle.term_ring.specs.Carried.{Carries};
 ghost use Rattle.term_ring.specs.Spelling.{notes_of};
-ghost use Rattle.term_ring.specs.Ends.{IsWriterOf, sent, head_seen};
+ghost use Rattle.term_ring.specs.Ends.{IsWriterOf, script_in, sent, head_seen};
 ghost use Rattle.term_ring.specs.Names.{RingName, NoneBelow, notes_count, ring_name, NoneBelow-itself};
-ghost use Rattle.global_heap.specs.Merges.{IsCause, IsSound, taken_of};
+ghost use Rattle.global_heap.specs.Merges.{IsCause, IsSound, IsOwed, taken_of};
 ghost use Rattle.global_heap.specs.Reached.{merge_name, merge_reached};
 
 use crate::answer::Advance;
@@ -89,6 +90,7 @@ impl<R: CoeffRing, M: Monomial> Merge<R, M> {
         ensures prefix { IsPrefix (taken_of self.new worker) (notes_of M.vector R.value (sent writer.new)) }
         ensures reader_seen { length (sent writer.new) ≤ slice_index_or self.new.tails worker 0 }
         ensures writer_seen { length (taken_of self.new worker) ≤ head_seen writer.new }
+        ensures owed { Carries M.vector R.value (script_in ring.now) (sent writer.new) → IsOwed self.new worker (notes_of M.vector R.value (sent writer.new)) }
     {
         self.readers[worker as usize].meet(ring, writer);
     }

@@ -1,5 +1,5 @@
 -- Where the row of a head is in the heap.
-use Rattle.std.specs.Prelude.{◌≡◌, ◌⊎◌, ℕ, Bool, false, cond, Option, Some, None}
+use Rattle.std.specs.Prelude.{◌≡◌, ◌⊎◌, false, cond, Option, Some, None}
 use Rattle.std.specs.declared.cmp.Ordering.{Ordering}
 use Rattle.std.specs.Ordering.{is_eq, is_gt}
 use Rattle.chained_heap.specs.declared.node.Place.{Place}

@@ -1,11 +1,16 @@
-use Rattle.std.proofs.Common.{◌≡◌, ◌∙◌, ◌+◌, ◌-◌, ◌<◌, length, subst, sym, arith, refl, true≢false, vec_len, vec_capacity}
-use Rattle.global_heap.specs.Merges.{AllServed, Emits}
-use Rattle.global_heap.specs.Inside.{merge_state, merge_view}
+use Rattle.std.proofs.Common.{◌≡◌, ◌+◌, ◌-◌, ◌<◌, subst, sym, arith, refl, ◌∙◌, true≢false, vec_len, vec_capacity}
+use Rattle.std.specs.Ordering.{is_eq}
+use Rattle.sdmp_laws.specs.Order.{alike}
 use Rattle.ring_heads.proofs.HeadLemmas.{eq_alike}
+use Rattle.global_heap.specs.Inside.{merge_state}
 use Rattle.global_heap.proofs.Finish.{top_fits}
-use Rattle.global_heap.proofs.Sound.{is_sound}
-use Rattle.global_heap.proofs.EmitSound.{emit_merge, emit_view, pushed, emitted_zero}
+use Rattle.global_heap.proofs.EmitSound.{pushed, passed}
+use Rattle.global_heap.proofs.merge.Merge.emit.Given.{Over}
 use Rattle.global_heap.proofs.merge.Merge.emit.Goals as goal
+
+-- monomials compare as equal where their vectors are alike
+same_vectors : (g : Over) → (a b : g.row.M.Denot) → is_eq (g.M.Ord.cmp a b) ≡ alike (g.M.Monomial.vector a) (g.M.Monomial.vector b)
+same_vectors g = let monos = g.met.M.Monomial g.world.𝓛 g.world.𝓜 g.world.𝓡 ((λ s x. x), (λ x. x), (λ x. x), λ x. x) in eq_alike g.M.Ord.cmp g.M.Monomial.vector g.R.CoeffRing.value _ _ monos.ordered monos.vars
 
 pub take_top-requires-clause-bound : goal.take_top-requires-clause-bound
 take_top-requires-clause-bound g c κs within i =
@@ -14,62 +19,26 @@ take_top-requires-clause-bound g c κs within i =
 
 pub invariant_of-self : goal.invariant_of-self
 invariant_of-self g c =
-    let monos = g.met.M.Monomial g.world.𝓛 g.world.𝓜 g.world.𝓡 ((λ s x. x), (λ x. x), (λ x. x), λ x. x) in
-    let law = eq_alike g.M.Ord.cmp g.M.Monomial.vector g.R.CoeffRing.value _ _ monos.ordered monos.vars in
     let top = c.in-Some.ensures in
-    let served = subst (λ v. AllServed v.state) (sym c.self.view_is) c.requires.served in
-    emit_merge g.M.Ord.cmp _ _ _ _ _ _ _ law _ _ _ _ _ _ c.in-Some.term c.self.invariant top.sum served (monos.vars c.in-Some.term.mono) top.heads
-    (pushed g.M.Ord.cmp _ _ _ _ _ _ _ law _ _ _ _ _ c.in-Some.term c.self.invariant top.sum (λ z. true≢false (sym (c.if-not-is_zero.ensures.1 z))) top.belongs c.push_reserved.ensures.items)
+    let e = c.push_reserved.ensures in
+    let few : vec_capacity c.push_reserved.new.self - vec_len c.push_reserved.new.self + 1 ≡ vec_capacity c.self.inside.out - vec_len c.self.inside.out = (let r = subst (λ v. 0 < v.spare) (sym c.self.view_is) c.requires.room in omega (arith, e.len, e.capacity, c.self.inside.out.ok.0, c.push_reserved.new.self.ok.0, r)) in
+    (pushed g.M.Ord.cmp _ _ _ _ _ g.M.Monomial.LIM _ (same_vectors g) _ _ _ _ _ _ _ _ _ c.in-Some.term c.self.invariant c.self.view_is c.requires.served top.sum ((g.met.M.Monomial g.world.𝓛 g.world.𝓜 g.world.𝓡 ((λ s x. x), (λ x. x), (λ x. x), λ x. x)).vars c.in-Some.term.mono) top.heads (λ z. true≢false (sym (c.if-not-is_zero.ensures.1 z))) top.belongs e.items few).kept
+
+pub returns-then-not-is_zero : goal.returns-then-not-is_zero
+returns-then-not-is_zero g c =
+    let top = c.in-Some.ensures in
+    let e = c.push_reserved.ensures in
+    let few : vec_capacity c.push_reserved.new.self - vec_len c.push_reserved.new.self + 1 ≡ vec_capacity c.self.inside.out - vec_len c.self.inside.out = (let r = subst (λ v. 0 < v.spare) (sym c.self.view_is) c.requires.room in omega (arith, e.len, e.capacity, c.self.inside.out.ok.0, c.push_reserved.new.self.ok.0, r)) in
+    let p = pushed g.M.Ord.cmp _ _ _ _ _ g.M.Monomial.LIM _ (same_vectors g) _ _ _ _ _ _ _ _ _ c.in-Some.term c.self.invariant c.self.view_is c.requires.served top.sum ((g.met.M.Monomial g.world.𝓛 g.world.𝓜 g.world.𝓡 ((λ s x. x), (λ x. x), (λ x. x), λ x. x)).vars c.in-Some.term.mono) top.heads (λ z. true≢false (sym (c.if-not-is_zero.ensures.1 z))) top.belongs e.items few in
+    record { sound = p.sound; emits = p.emits }
 
 pub invariant_of-self-else-not-is_zero : goal.invariant_of-self-else-not-is_zero
 invariant_of-self-else-not-is_zero g c =
-    let monos = g.met.M.Monomial g.world.𝓛 g.world.𝓜 g.world.𝓡 ((λ s x. x), (λ x. x), (λ x. x), λ x. x) in
-    let law = eq_alike g.M.Ord.cmp g.M.Monomial.vector g.R.CoeffRing.value _ _ monos.ordered monos.vars in
     let top = c.in-Some.ensures in
-    let served = subst (λ v. AllServed v.state) (sym c.self.view_is) c.requires.served in
-    emit_merge g.M.Ord.cmp _ _ _ _ _ _ _ law _ _ _ _ _ _ c.in-Some.term c.self.invariant top.sum served (monos.vars c.in-Some.term.mono) top.heads
-    (emitted_zero g.M.Ord.cmp _ _ _ _ _ _ _ law _ _ _ _ c.in-Some.term c.self.invariant top.sum (c.if-not-is_zero.ensures.0 refl))
+    (passed g.M.Ord.cmp _ _ _ _ _ g.M.Monomial.LIM _ (same_vectors g) _ _ _ _ _ _ _ c.in-Some.term c.self.invariant c.self.view_is c.requires.served top.sum ((g.met.M.Monomial g.world.𝓛 g.world.𝓜 g.world.𝓡 ((λ s x. x), (λ x. x), (λ x. x), λ x. x)).vars c.in-Some.term.mono) top.heads (c.if-not-is_zero.ensures.0 refl)).kept
 
-pub returns-then-not-is_zero-clause-sound : goal.returns-then-not-is_zero-clause-sound
-returns-then-not-is_zero-clause-sound g c =
-    let monos = g.met.M.Monomial g.world.𝓛 g.world.𝓜 g.world.𝓡 ((λ s x. x), (λ x. x), (λ x. x), λ x. x) in
-    let law = eq_alike g.M.Ord.cmp g.M.Monomial.vector g.R.CoeffRing.value _ _ monos.ordered monos.vars in
+pub returns-else-not-is_zero : goal.returns-else-not-is_zero
+returns-else-not-is_zero g c =
     let top = c.in-Some.ensures in
-    let served = subst (λ v. AllServed v.state) (sym c.self.view_is) c.requires.served in
-    is_sound g.M.Monomial.vector g.R.CoeffRing.value g.R.CoeffRing.belongs _ _ g.M.Monomial.LIM _ _ _ _ _ _
-    (emit_merge g.M.Ord.cmp _ _ _ _ _ _ _ law _ _ _ _ _ _ c.in-Some.term c.self.invariant top.sum served (monos.vars c.in-Some.term.mono) top.heads
-    (pushed g.M.Ord.cmp _ _ _ _ _ _ _ law _ _ _ _ _ c.in-Some.term c.self.invariant top.sum (λ z. true≢false (sym (c.if-not-is_zero.ensures.1 z))) top.belongs c.push_reserved.ensures.items))
-
-pub returns-else-not-is_zero-clause-sound : goal.returns-else-not-is_zero-clause-sound
-returns-else-not-is_zero-clause-sound g c =
-    let monos = g.met.M.Monomial g.world.𝓛 g.world.𝓜 g.world.𝓡 ((λ s x. x), (λ x. x), (λ x. x), λ x. x) in
-    let law = eq_alike g.M.Ord.cmp g.M.Monomial.vector g.R.CoeffRing.value _ _ monos.ordered monos.vars in
-    let top = c.in-Some.ensures in
-    let served = subst (λ v. AllServed v.state) (sym c.self.view_is) c.requires.served in
-    is_sound g.M.Monomial.vector g.R.CoeffRing.value g.R.CoeffRing.belongs _ _ g.M.Monomial.LIM _ _ _ _ _ _
-    (emit_merge g.M.Ord.cmp _ _ _ _ _ _ _ law _ _ _ _ _ _ c.in-Some.term c.self.invariant top.sum served (monos.vars c.in-Some.term.mono) top.heads
-    (emitted_zero g.M.Ord.cmp _ _ _ _ _ _ _ law _ _ _ _ c.in-Some.term c.self.invariant top.sum (c.if-not-is_zero.ensures.0 refl)))
-
-pub returns-then-not-is_zero-clause-emits : goal.returns-then-not-is_zero-clause-emits
-returns-then-not-is_zero-clause-emits g c =
-    let monos = g.met.M.Monomial g.world.𝓛 g.world.𝓜 g.world.𝓡 ((λ s x. x), (λ x. x), (λ x. x), λ x. x) in
-    let law = eq_alike g.M.Ord.cmp g.M.Monomial.vector g.R.CoeffRing.value _ _ monos.ordered monos.vars in
-    let top = c.in-Some.ensures in
-    let old = c.self.inside.out in
-    let new = c.push_reserved.new.self in
-    let room : vec_capacity new - vec_len new + length new.items ≡ vec_capacity old - vec_len old + length old.items =
-    (let e = c.push_reserved.ensures in let a = old.ok.0 in let b = new.ok.0 in let r = subst (λ v. 0 < v.spare) (sym c.self.view_is) c.requires.room in omega (arith, e.len, e.capacity, a, b, r)) in
-    subst (λ v. Emits v (merge_view g.M.Monomial.vector g.R.CoeffRing.value c.self.inside.readers.items c.take_top.new.self new.items (vec_capacity new - vec_len new))) c.self.view_is
-    (emit_view g.M.Ord.cmp _ _ g.R.CoeffRing.belongs _ _ g.M.Monomial.LIM _ law _ _ _ _ _ _ _ c.in-Some.term top.sum top.heads
-    (pushed g.M.Ord.cmp _ _ _ _ _ _ _ law _ _ _ _ _ c.in-Some.term c.self.invariant top.sum (λ z. true≢false (sym (c.if-not-is_zero.ensures.1 z))) top.belongs c.push_reserved.ensures.items) room)
-
-pub returns-else-not-is_zero-clause-emits : goal.returns-else-not-is_zero-clause-emits
-returns-else-not-is_zero-clause-emits g c =
-    let monos = g.met.M.Monomial g.world.𝓛 g.world.𝓜 g.world.𝓡 ((λ s x. x), (λ x. x), (λ x. x), λ x. x) in
-    let law = eq_alike g.M.Ord.cmp g.M.Monomial.vector g.R.CoeffRing.value _ _ monos.ordered monos.vars in
-    let top = c.in-Some.ensures in
-    let old = c.self.inside.out in
-    let same : vec_capacity old - vec_len old + length old.items ≡ vec_capacity old - vec_len old + length old.items = λ i. vec_capacity old - vec_len old + length old.items in
-    subst (λ v. Emits v (merge_view g.M.Monomial.vector g.R.CoeffRing.value c.self.inside.readers.items c.take_top.new.self old.items (vec_capacity old - vec_len old))) c.self.view_is
-    (emit_view g.M.Ord.cmp _ _ g.R.CoeffRing.belongs _ _ g.M.Monomial.LIM _ law _ _ _ _ _ _ _ c.in-Some.term top.sum top.heads
-    (emitted_zero g.M.Ord.cmp _ _ _ _ _ _ _ law _ _ _ _ c.in-Some.term c.self.invariant top.sum (c.if-not-is_zero.ensures.0 refl)) same)
+    let p = passed g.M.Ord.cmp _ _ _ _ _ g.M.Monomial.LIM _ (same_vectors g) _ _ _ _ _ _ _ c.in-Some.term c.self.invariant c.self.view_is c.requires.served top.sum ((g.met.M.Monomial g.world.𝓛 g.world.𝓜 g.world.𝓡 ((λ s x. x), (λ x. x), (λ x. x), λ x. x)).vars c.in-Some.term.mono) top.heads (c.if-not-is_zero.ensures.0 refl) in
+    record { sound = p.sound; emits = p.emits }
