@@ -4,7 +4,8 @@ use Rattle.turnstile.specs.declared.turn.Pass.{Pass}
 use Rattle.term_ring.specs.Names.{RingName}
 use Rattle.global_heap.specs.Merges.{MergeView}
 use Rattle.global_heap.specs.declared.receipt.Advanced.{Advanced}
-use Rattle.mul_workers.specs.Workers.{patience, IsReceipt, MayGiveUp}
+use Rattle.turnstile.specs.Passes.{patience}
+use Rattle.mul_workers.specs.Workers.{IsReceipt, MayGiveUp}
 
 module _ {X M E : Type 0} where
   -- a worker gives up after patience tries, or with a receipt

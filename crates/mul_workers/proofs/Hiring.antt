@@ -11,7 +11,7 @@ use Rattle.sdmp_laws.specs.Canonical.{Polynomial}
 use Rattle.whole_laws.specs.Notes.{Note, Product, ProductScript, script_list}
 use Rattle.whole_laws.specs.Wholes.{MergeState, merge_start, notes_of}
 use Rattle.row_merge.specs.Part.{Remaining}
-use Rattle.term_ring.specs.Ends.{head_seen, head_loads, IsWriterOf, IsReaderOf}
+use Rattle.term_ring.specs.Ends.{head_seen, full_looks, IsWriterOf, IsReaderOf}
 use Rattle.term_ring.specs.declared.ring.Ring.{Ring}
 use Rattle.term_ring.specs.declared.ring.Writer.{Writer}
 use Rattle.term_ring.specs.declared.ring.Reader.{Reader}
@@ -37,14 +37,14 @@ module _ {X M E : Type 0} where
   pub name_of_reader : (ring : Ring X M E) (r : Reader X M E) → IsReaderOf ring r → reader_name r ≡ ring_name ring
   name_of_reader ring r h = λ i. record { table = h.1 i; script = h.2 i; places = h.3 i }
 
-  pub hired_sender : (ring : Ring X M E) (w : Writer X M E) (k : ℕ) (s : SenderView) → IsWriterOf ring w → (head_seen w ≡ 0) × (head_loads w ≡ 0) → s ≡ record { ring = writer_name w; worker = k; sent = []; head = head_seen w; loads = head_loads w } → s ≡ record { ring = ring_name ring; worker = k; sent = []; head = 0; loads = 0 }
-  hired_sender ring w k s of h e = e ∙ (λ i. record { ring = name_of_writer ring w of i; worker = k; sent = []; head = h.0 i; loads = h.1 i })
+  pub hired_sender : (ring : Ring X M E) (w : Writer X M E) (k : ℕ) (s : SenderView) → IsWriterOf ring w → (head_seen w ≡ 0) × (full_looks w ≡ 0) → s ≡ record { ring = writer_name w; worker = k; sent = []; head = head_seen w; full_looks = full_looks w } → s ≡ record { ring = ring_name ring; worker = k; sent = []; head = 0; full_looks = 0 }
+  hired_sender ring w k s of h e = e ∙ (λ i. record { ring = name_of_writer ring w of i; worker = k; sent = []; head = h.0 i; full_looks = h.1 i })
 
 -- the ring has the script of the worker k of W, and the worker has sent nothing
 pub record IsHired (m : Product) (W k : ℕ) (name : RingName) (s : SenderView) : Type 0 where
   pub script : name.script ≡ ProductScript m W k
   pub places : 0 < name.places
-  pub sender : s ≡ record { ring = name; worker = k; sent = []; head = 0; loads = 0 }
+  pub sender : s ≡ record { ring = name; worker = k; sent = []; head = 0; full_looks = 0 }
 
 -- the first i workers have their rings
 pub record AreHired (m : Product) (W : ℕ) (names : List RingName) (team : List SenderView) (i : ℕ) : Type 0 where
@@ -90,7 +90,7 @@ module _ {A B : Type 0} (xs later : List A) (a : A) (ys after : List B) (b : B) 
 pub hired_scripts : (m : Product) (W : ℕ) (names : List RingName) (team : List SenderView) → AreHired m W names team W → HasScripts m names
 hired_scripts m W names team h w d l =
     subst (λ (n : ℕ). (get_or names w d).script ≡ ProductScript m n w) (sym h.count)
-    (h.each w d record { ring = d; worker = 0; sent = []; head = 0; loads = 0 } (let c = h.count in omega arith)).script
+    (h.each w d record { ring = d; worker = 0; sent = []; head = 0; full_looks = 0 } (let c = h.count in omega arith)).script
 
 pub hired_members : (m : Product) (W : ℕ) (names : List RingName) (team : List SenderView) → AreHired m W names team W → AreMembers names team
 hired_members m W names team h = record {
@@ -126,27 +126,38 @@ first_team v m W team start members = record {
 }
 
 -- ---- the product of a merge of these rings
-module _ (m : Product) (names readers : List RingName) (same : readers ≡ names) (scripts : HasScripts m names) (some : 0 < length names) where
-  pub readers_are : first_product readers ≡ m
-  readers_are = ap first_product same ∙ first_is m names scripts some
+-- these readers are those of the W rings of a product, in their order
+pub record AreRead (m : Product) (W : ℕ) (names readers : List RingName) : Type 0 where
+  pub same : readers ≡ names
+  pub scripts : HasScripts m names
+  pub count : length names ≡ W
+  pub some : 0 < W
 
-  pub readers_some : 0 < length readers
-  readers_some = subst (λ (n : List RingName). 0 < length n) (sym same) some
+-- the rings of a team and the merge's readers
+pub team_read : {X M E : Type 0} (m : Product) (W : ℕ) (rings : List (Ring X M E)) (readers : List (Reader X M E)) → length rings ≡ W → 0 < W → map reader_name readers ≡ map ring_name rings → HasScripts m (map ring_name rings) → AreRead m W (map ring_name rings) (map reader_name readers)
+team_read m W rings readers count some same scripts = record { same = same; scripts = scripts; count = length-map rings ring_name ∙ count; some = some }
+
+module _ {m : Product} {W : ℕ} {names readers : List RingName} (r : AreRead m W names readers) where
+  names_some : 0 < length names
+  names_some = let n = r.count in let l = r.some in omega arith
+
+  pub readers_are : first_product readers ≡ m
+  readers_are = ap first_product r.same ∙ first_is m names r.scripts names_some
 
   pub readers_scripts : HasScripts (first_product readers) readers
-  readers_scripts = subst (λ (n : Product). HasScripts n readers) (sym readers_are) (subst (HasScripts m) (sym same) scripts)
+  readers_scripts = subst (λ (n : Product). HasScripts n readers) (sym readers_are) (subst (HasScripts m) (sym r.same) r.scripts)
 
   pub readers_fit : (lim : ℕ) → IsFit lim m → IsFit lim (first_product readers)
   readers_fit lim fit = subst (IsFit lim) (sym readers_are) fit
 
-  pub all_sent : (W : ℕ) (v : List RingName) → length names ≡ W → v ≡ readers → notes_total (first_product v) (length v) ≡ notes_total m W
-  all_sent W v long e = ap (λ (r : List RingName). notes_total (first_product r) (length r)) (e ∙ same) ∙ ap (λ (n : Product). notes_total n (length names)) (first_is m names scripts some) ∙ ap (notes_total m) long
+  pub all_sent : (v : List RingName) → v ≡ readers → notes_total (first_product v) (length v) ≡ notes_total m W
+  all_sent v e = ap (λ (x : List RingName). notes_total (first_product x) (length x)) (e ∙ r.same) ∙ ap (λ (n : Product). notes_total n (length names)) (first_is m names r.scripts names_some) ∙ ap (notes_total m) r.count
 
   pub product_of_merge : (lim : ℕ) (v : MergeView) → IsSound lim v → v.rings ≡ readers → v.state.product ≡ m
   product_of_merge lim v s e = s.product ∙ ap first_product e ∙ readers_are
 
-  pub workers_of_merge : (lim W : ℕ) (v : MergeView) → IsSound lim v → v.rings ≡ readers → length names ≡ W → v.state.workers ≡ W
-  workers_of_merge lim W v s e long = sym s.rings_count ∙ ap (λ (r : List RingName). length r) (e ∙ same) ∙ long
+  pub workers_of_merge : (lim : ℕ) (v : MergeView) → IsSound lim v → v.rings ≡ readers → v.state.workers ≡ W
+  workers_of_merge lim v s e = sym s.rings_count ∙ ap (λ (x : List RingName). length x) (e ∙ r.same) ∙ r.count
 
-  pub team_of_merge : (v : MergeView) (W : ℕ) (team : List SenderView) → v.state ≡ merge_start (first_product readers) W → v.rings ≡ readers → AreMembers names team → IsTeam v team
-  team_of_merge v W team start e members = first_team v (first_product readers) W team start (subst (λ (n : List RingName). AreMembers n team) (sym (e ∙ same)) members)
+  pub team_of_merge : (v : MergeView) (n : ℕ) (team : List SenderView) → v.state ≡ merge_start (first_product readers) n → v.rings ≡ readers → AreMembers names team → IsTeam v team
+  team_of_merge v n team start e members = first_team v (first_product readers) n team start (subst (λ (x : List RingName). AreMembers x team) (sym (e ∙ r.same)) members)

@@ -17,7 +17,7 @@ use Rattle.term_ring.specs.declared.ring.Writer.{Writer}
 use Rattle.term_ring.specs.Names.{ring_name, writer_name, IsWriting}
 use Rattle.global_heap.proofs.Counts.{notes_within}
 use Rattle.global_heap.proofs.Sound.{NoEnd-more}
-use Rattle.term_ring.specs.Sending.{SenderView, sender_view, whole_script, Sends, ArePushed, is_end}
+use Rattle.term_ring.specs.Sending.{SenderView, sender_view, whole_script, Sends, is_end}
 use Rattle.mul_workers.specs.Inside.{script_of_rows, IsNextNote, IsUnsent, KeptBelongs, IsSender}
 
 -- ---- one note of a product's script
@@ -233,11 +233,6 @@ Sends-trans a b c x y = record {
 
 pub sends_length : (a b : SenderView) → Sends a b → length a.sent ≤ length b.sent
 sends_length a b s = let l = length-append a.sent s.sent.0 in let e = ap (λ (n : List Note). length n) s.sent.1 in omega arith
-
--- a push sends one note at most
-pub one_push : {A F : Type 0} (a b : SenderView) (r : Result A F) → IfOk r (λ _. length b.sent ≡ length a.sent + 1) → IfErr r (λ _. b.sent ≡ a.sent) → b.loads ≡ a.loads + 1 → ArePushed a b
-one_push a b (Ok x) more kept loads = omega arith
-one_push a b (Err x) more kept loads = let e = ap (λ (n : List Note). length n) kept in omega arith
 
 module _ {X M E : Type 0} (vector : M → List ℕ) (value : E → ℤ) where
   -- nothing was sent

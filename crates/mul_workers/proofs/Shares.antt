@@ -1,4 +1,4 @@
--- A worker may go to another thread, and a turnstile around a merge is shared by threads.
+-- A worker's part may go to another thread, and the call of each worker is shared by threads.
 use denote.RattleType.{RattleType}
 use denote.Ref.{NamedLft}
 use denote.Param.Send.{IsSend, IsSync, sendable}
@@ -9,8 +9,6 @@ use mathlib.Core.List.{[], ◌∷◌}
 use mir.Syntax.{Sym}
 use Rattle.std.proofs.Crossing.{crosses}
 use Rattle.atomic_table.proofs.shared.Seat.TheSendSync as seat
-use Rattle.atomic_table.proofs.shared.Shared.TheSendSync as shared
-use Rattle.atomic_table.proofs.send_lease.SendLease.TheSendSync as lease
 use Rattle.coeff_ring.specs.declared.CoeffRing as CoeffRing
 use Rattle.packed_monomial.specs.declared.monomial.Monomial as Monomial
 use Rattle.std.specs.declared.cmp.Ord as Ord
@@ -22,23 +20,13 @@ use Rattle.row_merge.specs.contracts.merge.RowSet as RowSet
 use Rattle.row_merge.specs.contracts.rows.Rows as Rows
 use Rattle.term_ring.proofs.Shares.{snapshot_send}
 use Rattle.term_ring.specs.contracts.ring.Writer as Writer
-use Rattle.global_heap.proofs.Shares.{heap_send, merge_send}
-use Rattle.turnstile.proofs.own.Own.TheSendSync as own
-use Rattle.turnstile.specs.declared.named.Named as Named
-use Rattle.turnstile.specs.contracts.turn.Pass as Pass
-use Rattle.turnstile.specs.contracts.turn.Turnstile as Turnstile
+use Rattle.ring_heads.proofs.Shares.{heap_send}
 use Rattle.mul_workers.specs.contracts.sender.Sender as Sender
-use Rattle.mul_workers.specs.contracts.worker.MulWorker as MulWorker
+use Rattle.mul_workers.specs.contracts.part.Part as Part
 
 -- a closure that captures a slice and two references
 pub captures_sync : (name : Sym) (α β γ : NamedLft) (A B C : RattleType) → IsSync A → IsSync B → IsSync C → IsSync (TupleAt name (ShrSlice α.mir α.lft A ∷ ShrRef β.mir β.lft B ∷ ShrRef γ.mir γ.lft C ∷ []))
 captures_sync name α β γ A B C a b c = search sendable depth 20
-
-pub pass_send : (T : RattleType) → IsSend T → IsSend (Pass.the_row T)
-pass_send T s = search (sendable, seat.the_send) depth 14
-
-pub turnstile_sync : (T : RattleType) (n : Named.Ghosts T.Denot) → IsSend T → IsSync (Turnstile.the_row T n)
-turnstile_sync T n s = search (sendable, crosses, shared.the_sync, lease.the_sync, own.the_sync) depth 20
 
 module _ (R M E : RattleType) (c : CoeffRing.Ghosts R.Denot E.Denot) (m : Monomial.Ghosts M.Denot) (o : Ord.Ghosts M.Denot) (e : PartialEq.Ghosts M.Denot) (p : PartialOrd.Ghosts M.Denot) where
   pub poly_sync : IsSync R → IsSync M → IsSync E → IsSync (Poly.the_row R M E c m o e p)
@@ -60,5 +48,5 @@ module _ (R M E : RattleType) (c : CoeffRing.Ghosts R.Denot E.Denot) (m : Monomi
   pub sender_send : (α : NamedLft) → IsSend M → IsSend E → IsSync R → IsSync M → IsSync E → IsSend (Sender.the_row α R M E c m o e p)
   sender_send α s t x y z = search (sendable, crosses, end_send, rows_send) depth 24
 
-  pub worker_send : (α : NamedLft) → IsSend R → IsSend M → IsSend E → IsSync R → IsSync M → IsSync E → IsSend (MulWorker.the_row α R M E c m o e p)
-  worker_send α r s t x y z = search (sendable, sender_send, pass_send, merge_send) depth 24
+  pub part_send : (α : NamedLft) → IsSend R → IsSend M → IsSend E → IsSync R → IsSync M → IsSync E → IsSend (Part.the_row α R M E c m o e p)
+  part_send α r s t x y z = search (sendable, crosses, sender_send) depth 24

@@ -1,37 +1,25 @@
 -- For loops over a team's workers.
 use Rattle.std.proofs.Common.{◌≡◌, ℕ, zero, suc, ◌+◌, ◌<◌, ◌≤◌, List, [], ◌∷◌, ◌++◌, All, length, map, get_or, set, Option, Some, None, is_some, true≢false, refl, sym, ap, ◌∙◌, subst, arith, length-set}
 use Rattle.std.proofs.lemmas.List.{get_or-set_same, get_or-set_other, length-map, map-set}
-use Rattle.std.proofs.lemmas.List.Elements.{All-append}
 use Rattle.std.proofs.Math.ListN.{get_or-map}
 use mathlib.Core.Logic.{dite}
 use mathlib.Core.List.{IsPrefix}
 use native.Mathlib.Decide.{ℕ_discrete}
-use Rattle.turnstile.specs.Passes.{made_with, table_of, IsPassOf, IsOutside}
-use Rattle.turnstile.specs.declared.turn.Pass.{Pass}
-use Rattle.turnstile.specs.declared.turn.Turnstile.{Turnstile}
 use Rattle.whole_laws.specs.Wholes.{MergeState, notes_of}
 use Rattle.term_ring.specs.Names.{RingName, NoneBelow}
 use Rattle.global_heap.specs.Merges.{MergeView}
 use Rattle.term_ring.specs.Sending.{SenderView, IsAmong}
-use Rattle.mul_workers.specs.Workers.{HasPass}
 use Rattle.mul_workers.specs.Rounds.{IsMember, AreMembers, Moves, AllMove, Meets, AllMeet}
 use Rattle.mul_workers.proofs.Teams.{members_among}
 
 module _ {X : Type 0} where
-  pub set_more : (P Q : X → Type 0) (xs : List X) (i : ℕ) (x : X) → ((k : ℕ) (d : X) → k < i → P (get_or xs k d)) → ((y : X) → P y → Q y) → Q x → i < length xs → (k : ℕ) (d : X) → k < i + 1 → Q (get_or (set xs i x) k d)
-  set_more P Q xs i x old moves new lt k d below = dite (ℕ_discrete k i)
-      (λ is. subst (λ (j : ℕ). Q (get_or (set xs i x) j d)) (sym is) (subst Q (sym (get_or-set_same xs i x d lt)) new))
-      (λ not. subst Q (sym (get_or-set_other xs i k x d not)) (moves (get_or xs k d) (old k d (omega (arith, not)))))
-
-  pub set_less : (P : X → Type 0) (xs : List X) (i : ℕ) (x : X) → ((k : ℕ) (d : X) → i ≤ k → k < length xs → P (get_or xs k d)) → (k : ℕ) (d : X) → i + 1 ≤ k → k < length (set xs i x) → P (get_or (set xs i x) k d)
-  set_less P xs i x all k d above lt = let same = length-set xs i x in subst P (sym (get_or-set_other xs i k x d (λ is. absurd (omega arith)))) (all k d (omega arith) (omega arith))
-
-  pub one_has : (P : X → Type 0) (x : X) → P x → All P (x ∷ [])
-  one_has P x h zero d lt = h
-  one_has P x h (suc k) d lt = absurd (omega arith)
-
-  pub one_more : (P : X → Type 0) (xs ys : List X) (x : X) → ys ≡ xs ++ x ∷ [] → All P xs → P x → All P ys
-  one_more P xs ys x is all new = subst (All P) (sym is) (All-append P xs (x ∷ []) all (one_has P x new))
+  -- where the workers stay, so do their senders
+  pub same_senders : {W : Type 0} (f : X → W) (s : W → SenderView) (xs ys : List X) → map f ys ≡ map f xs → map (λ (x : X). s (f x)) ys ≡ map (λ (x : X). s (f x)) xs
+  same_senders {W = W} f s xs ys e = at ys ∙ ap (map s) e ∙ sym (at xs)
+    where
+      at : (zs : List X) → map (λ (x : X). s (f x)) zs ≡ map s (map f zs)
+      at [] = refl
+      at (z ∷ zs) = ap (λ (r : List SenderView). s (f z) ∷ r) (at zs)
 
   -- the senders of two teams, place by place
   at_each : (P : SenderView → SenderView → Type 0) (f : X → SenderView) (xs ys : List X) → length ys ≡ length xs → ((k : ℕ) (d : X) → k < length xs → P (f (get_or xs k d)) (f (get_or ys k d))) → (k : ℕ) (d : SenderView) → k < length (map f xs) → P (get_or (map f xs) k d) (get_or (map f ys) k d)
@@ -47,21 +35,6 @@ module _ {X : Type 0} where
   all_among names f xs m k d lt =
       let l = length-map xs f in
       subst (IsAmong names) (get_or-map f xs k d) (members_among names k (get_or (map f xs) k (f d)) (m.each k (f d) (omega arith)))
-
--- ---- passes
-got : {A : Type 0} → A → Option A → A
-got d None = d
-got d (Some x) = x
-
-pub still_has : (s t : Turnstile MergeView) (o : Option (Pass MergeView)) → table_of t ≡ table_of s → made_with t ≡ made_with s → HasPass s o → HasPass t o
-still_has s t o same made h = (h.0, h.1, (h.2.0 ∙ sym same, h.2.1 ∙ ap Some (sym made), h.2.2), h.3)
-
-pub its_pass : (t : Turnstile MergeView) (o : Option (Pass MergeView)) (p : Pass MergeView) → o ≡ Some p → HasPass t o → IsPassOf t p × IsOutside p
-unfolding got
-its_pass t o p is h = subst (λ (q : Pass MergeView). IsPassOf t q × IsOutside q) (ap (got p) (sym h.1 ∙ is)) (h.2, h.3)
-
-pub no_pass : (t : Turnstile MergeView) (o : Option (Pass MergeView)) → HasPass t o → o ≡ None → ⊥
-no_pass t o h e = true≢false (ap is_some (sym h.1 ∙ e))
 
 -- ---- meetings
 -- the first i workers have met the merge, and the others are as they were

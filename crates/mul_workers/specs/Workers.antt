@@ -1,32 +1,14 @@
 -- How an advance of a worker ends.
 use Rattle.std.specs.Prelude.{◌≡◌, ℕ, ◌+◌, ◌<◌, ◌≤◌, List, Option, Some, None}
 use Rattle.whole_laws.specs.Notes.{NoEnd}
-use Rattle.turnstile.specs.Passes.{IsPassOf, IsOutside, entries, busy}
+use Rattle.turnstile.specs.Passes.{entries, busy, entries_of, busy_of, patience}
 use Rattle.turnstile.specs.declared.turn.Pass.{Pass}
-use Rattle.turnstile.specs.declared.turn.Turnstile.{Turnstile}
 use Rattle.term_ring.specs.Names.{RingName}
 use Rattle.global_heap.specs.Merges.{MergeView}
 use Rattle.global_heap.specs.declared.receipt.Advanced.{Advanced}
 use Rattle.term_ring.specs.Sending.{SenderView, IsSentWhole, IsRefused, WasRefused}
 use Rattle.mul_workers.specs.declared.stop.Stop.{Stop}
 use Rattle.mul_workers.specs.declared.stop.Stop.TheVariants.{Ended, Full}
-
--- there is a pass, of this turnstile and outside
-abbrev pub HasPass : Turnstile MergeView → Option (Pass MergeView) → Type 0
-HasPass t o = (p : Pass MergeView) × (o ≡ Some p) × IsPassOf t p × IsOutside p
-
--- how often the pass came in, and how many of its tries found the turnstile held
-abbrev pub entries_of : Option (Pass MergeView) → ℕ
-entries_of None = 0
-entries_of (Some p) = entries p
-
-abbrev pub busy_of : Option (Pass MergeView) → ℕ
-busy_of None = 0
-busy_of (Some p) = busy p
-
--- how often the turnstile is tried
-abbrev pub patience : ℕ
-patience = 64
 
 module _ {X M E : Type 0} where
   -- a receipt comes of an advance in the turnstile, of a merge that reads these rings; none comes only where so many tries found the turnstile held

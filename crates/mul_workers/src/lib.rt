@@ -1,6 +1,7 @@
 //! Products by several workers, each with its part of the rows, over one shared merge.
 #![tactic(auto)]
 
+mod part;
 mod product;
 mod round;
 mod rounds;
@@ -14,7 +15,7 @@ mod worker;
 pub use product::{MulFault, Product};
 pub use stop::Stop;
 pub use threaded::multiply;
-pub use waiting::PATIENCE;
+pub use turnstile::PATIENCE;
 pub use worker::MulWorker;
 
 #[cfg(test)]

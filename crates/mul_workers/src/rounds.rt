@@ -6,8 +6,8 @@ ghost use Rattle.global_heap.specs.Merges.{IsSound};
 ghost use Rattle.term_ring.specs.Names.{ring_name};
 ghost use Rattle.mul_workers.specs.Rounds.{IsTeam};
 
+use crate::part::Worker;
 use crate::round::round;
-use crate::worker::MulWorker;
 use coeff_ring::CoeffRing;
 use global_heap::{Advance, Advanced, Merge};
 use packed_monomial::Monomial;
@@ -31,13 +31,13 @@ pub(crate) fn finish<T: Threads + Sync, R: CoeffRing, M: Monomial, G: Gate>(
     alloc: Global,
     merge: Merge<R, M>,
     rings: &[Ring<R, M>],
-    workers: &mut [MulWorker<'_, R, M>],
+    workers: &mut [Worker<'_, R, M>],
     room: usize,
     most: usize,
     gate: &G,
 ) -> Result<Finished<R, M>, NoMemory>
     requires rings { merge.rings ≡ map ring_name rings.now }
-    requires team { IsTeam merge (map (λ w. w.sender) workers.old) }
+    requires team { IsTeam merge (map (λ w. w.worker.sender) workers.old) }
     ensures sound { IfOk result (λ e. IsSound M.LIM e.merge) }
     ensures done { IfOk result (λ e. IsMergeDone e.merge.state) }
     ensures rings { IfOk result (λ e. e.merge.rings ≡ merge.rings) }

@@ -3,9 +3,9 @@ ghost use Rattle.std.specs.Prelude.{◌≡◌, ◌+◌, ◌<◌, ◌≤◌, ℕ,
 ghost use Rattle.sdmp_laws.specs.Poly.{Term};
 ghost use Rattle.whole_laws.specs.Notes.{NoEnd, Carry, script_list};
 ghost use Rattle.term_ring.specs.Spelling.{Belongs, note_of};
-ghost use Rattle.term_ring.specs.Ends.{sent, head_seen, head_loads};
+ghost use Rattle.term_ring.specs.Ends.{sent, head_seen, full_looks};
 ghost use Rattle.term_ring.specs.Names.{RingName, NoneBelow, ring_name, writer_name, IsWriting};
-ghost use Rattle.term_ring.specs.Sending.{IsSentWhole, IsRefused, Sends, ArePushed, WasRefused, HasMet, is_end};
+ghost use Rattle.term_ring.specs.Sending.{IsSentWhole, IsRefused, Sends, WasRefused, HasMet, is_end};
 ghost use Rattle.mul_workers.specs.Inside.{script_of_rows, IsNextNote, IsUnsent, KeptBelongs};
 
 use coeff_ring::CoeffRing;
@@ -18,7 +18,7 @@ use term_ring::{Full, Note, NoteOf, Ring, Writer};
 
 /// A worker's rows, the writer of its ring, and the note that a full ring refused.
 ///
-/// Contracts see its ring, its number, the notes that it sent, the head that its writer saw last and how often it loaded the head.
+/// Contracts see its ring, its number, the notes that it sent, the head that its writer saw last, and how often it found no room there.
 #[derive(Drop)]
 pub struct Sender<'a, R: CoeffRing, M: Monomial> {
     worker: u32,
@@ -77,7 +77,7 @@ impl<'a, R: CoeffRing, M: Monomial> Sender<'a, R, M> {
         requires script { (writer_name writer).script ≡ script_of_rows M.order M.VARS rows }
         requires rest { rows.rest ≡ script_list (script_of_rows M.order M.VARS rows) }
         requires sent { sent writer ≡ [] }
-        ensures { result ≡ record { ring = writer_name writer; worker = worker; sent = []; head = head_seen writer; loads = head_loads writer } }
+        ensures { result ≡ record { ring = writer_name writer; worker = worker; sent = []; head = head_seen writer; full_looks = full_looks writer } }
     {
         Sender {
             worker,
@@ -112,11 +112,11 @@ impl<'a, R: CoeffRing, M: Monomial> Sender<'a, R, M> {
         requires clear { NoEnd self.old.sent }
         ensures sends { Sends self.old self.new }
         ensures carried { Carry self.new.ring.script self.new.sent }
-        ensures loads { self.new.loads ≡ self.old.loads + 1 }
+        ensures unrefused { IfOk result (λ _. self.new.full_looks ≡ self.old.full_looks) }
         ensures more { IfOk result (λ _. length self.new.sent ≡ length self.old.sent + 1) }
         ensures within { length self.new.sent ≤ length (script_list self.new.ring.script) + 1 }
         ensures kept { IfErr result (λ _. self.new.sent ≡ self.old.sent) }
-        ensures refused { IfErr result (λ _. IsRefused self.new) }
+        ensures refused { IfErr result (λ _. IsRefused self.new × WasRefused self.old self.new) }
     {
         let note = next_note(self.kept, &mut self.rows, steps);
         match self.writer.push(ring, note) {
@@ -137,7 +137,7 @@ impl<'a, R: CoeffRing, M: Monomial> Sender<'a, R, M> {
         requires ring { ring_name ring.now ≡ self.old.ring }
         ensures sends { Sends self.old self.new }
         ensures carried { Carry self.new.ring.script self.new.sent }
-        ensures pushed { ArePushed self.old self.new }
+        ensures looks { self.old.full_looks ≤ self.new.full_looks }
         ensures whole { IfOk result (λ _. IsSentWhole self.new) }
         ensures clear { IfErr result (λ _. NoEnd self.new.sent) }
         ensures refused { IfErr result (λ _. IsRefused self.new × WasRefused self.old self.new) }

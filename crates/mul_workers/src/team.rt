@@ -8,7 +8,8 @@ ghost use Rattle.term_ring.specs.Names.{ring_name, reader_name, IsReading};
 ghost use Rattle.mul_workers.specs.Rounds.{AreMembers};
 ghost use Rattle.mul_workers.specs.Products.{product_of};
 
-use crate::worker::MulWorker;
+use crate::part::{Part, Worker};
+use crate::waiting::patience_for;
 use canonical_terms::Poly;
 use coeff_ring::CoeffRing;
 use packed_monomial::Monomial;
@@ -16,13 +17,14 @@ use row_merge::{RowMerge, RowSet};
 use sdmp_laws::NoMemory;
 use std::alloc::Global;
 use term_ring::{Reader, Ring, Script};
+use turnstile::Member;
 
 /// The rings of a product in the order of their workers, with the readers and the workers.
 #[derive(Drop)]
 pub(crate) struct Team<'a, R: CoeffRing, M: Monomial> {
     pub(crate) rings: Vec<Ring<R, M>>,
     pub(crate) readers: Vec<Reader<R, M>>,
-    pub(crate) workers: Vec<MulWorker<'a, R, M>>,
+    pub(crate) workers: Vec<Worker<'a, R, M>>,
 }
 
 // the worker of these rows, with its ring and the reader of it
@@ -30,7 +32,7 @@ fn hire<'a, R: CoeffRing, M: Monomial>(
     alloc: Global,
     set: RowSet<'a, R, M>,
     places: u32,
-) -> Result<(Ring<R, M>, Reader<R, M>, MulWorker<'a, R, M>), NoMemory>
+) -> Result<(Ring<R, M>, Reader<R, M>, Worker<'a, R, M>), NoMemory>
     requires worker { set.worker < set.workers }
     requires modulus { set.f.now.modulus ≡ set.g.now.modulus }
     requires room { HasRoom M.LIM set.f.now.modulus set.f.now.list set.g.now.list }
@@ -39,7 +41,7 @@ fn hire<'a, R: CoeffRing, M: Monomial>(
     ensures places { IfOk result (λ t. places_of t.0 ≡ places) }
     ensures reader { IfOk result (λ t. IsReaderOf t.0 t.1) }
     ensures taken { IfOk result (λ t. taken t.1 ≡ []) }
-    ensures worker { IfOk result (λ t. t.2.sender ≡ record { ring = ring_name t.0; worker = set.entry.worker; sent = []; head = 0; loads = 0 }) }
+    ensures worker { IfOk result (λ t. t.2.worker.sender ≡ record { ring = ring_name t.0; worker = set.entry.worker; sent = []; head = 0; full_looks = 0 }) }
 {
     let worker = set.worker;
     let script = Script::Product {
@@ -50,11 +52,12 @@ fn hire<'a, R: CoeffRing, M: Monomial>(
     };
     let (ring, writer, reader) = Ring::new(alloc, set.f.ring(), places, &script)?;
     let rows = RowMerge::new(alloc, set)?;
-    Ok((
-        ring,
-        reader,
-        MulWorker::without_pass(worker, rows, writer, places),
-    ))
+    let part = Part::new(worker, rows, writer, patience_for(places));
+    let member = Member {
+        worker: part,
+        pass: None,
+    };
+    Ok((ring, reader, member))
 }
 
 impl<'a, R: CoeffRing, M: Monomial> Team<'a, R, M> {
@@ -74,7 +77,7 @@ impl<'a, R: CoeffRing, M: Monomial> Team<'a, R, M> {
         ensures reading { IfOk result (λ t. All IsReading t.readers.items) }
         ensures taken { IfOk result (λ t. All (λ r. taken r ≡ []) t.readers.items) }
         ensures scripts { IfOk result (λ t. HasScripts (product_of M.order M.VARS f.now g.now) (map ring_name t.rings.items)) }
-        ensures members { IfOk result (λ t. AreMembers (map ring_name t.rings.items) (map (λ w. w.sender) t.workers.items)) }
+        ensures members { IfOk result (λ t. AreMembers (map ring_name t.rings.items) (map (λ w. w.worker.sender) t.workers.items)) }
     {
         let count = workers as usize;
         let Ok(mut rings) = Vec::with_capacity(alloc, count) else {

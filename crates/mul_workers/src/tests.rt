@@ -2,10 +2,9 @@ ghost use Rattle.std.specs.Prelude.{◌≡◌, ◌≤◌, ◌<◌, [], ◌∷◌
 ghost use Rattle.sdmp_laws.specs.Limits.{greatest_norm, HasRoom};
 ghost use Rattle.whole_laws.specs.Notes.{ProductScript};
 ghost use Rattle.term_ring.specs.Ends.{IsReaderOf, script_in, taken};
-ghost use Rattle.turnstile.specs.Passes.{made_with, passes_out};
+ghost use Rattle.turnstile.specs.Passes.{made_with, passes_out, HasPass};
 ghost use Rattle.term_ring.specs.Names.{ring_name};
 ghost use Rattle.term_ring.specs.Sending.{IsAmong};
-ghost use Rattle.mul_workers.specs.Workers.{HasPass};
 ghost use Rattle.mul_workers.specs.Products.{product_of};
 
 use super::*;
@@ -449,7 +448,7 @@ fn hire_one<'a, R: CoeffRing, M: Monomial>(
     ensures rings { IfOk result (λ t. (made_with t.1).rings ≡ ring_name t.0 ∷ []) }
     ensures passes { IfOk result (λ t. passes_out t.1 ≡ 1) }
     ensures pass { IfOk result (λ t. HasPass t.1 t.2.pass) }
-    ensures among { IfOk result (λ t. IsAmong (ring_name t.0 ∷ []) t.2.sender) }
+    ensures among { IfOk result (λ t. IsAmong (ring_name t.0 ∷ []) t.2.part.sender) }
 {
     product_room(f, g)?;
     let script = Script::Product {
@@ -467,6 +466,7 @@ fn hire_one<'a, R: CoeffRing, M: Monomial>(
     };
     let rows = RowMerge::new(alloc, set)?;
     let merge = begin(alloc, f, g, &ring, reader)?;
+    merge.whole();
     let Ok(mut turnstile) = Turnstile::new(alloc, merge) else {
         return Err(Fail::from("no memory"));
     };
@@ -483,7 +483,7 @@ fn take_merge<R: CoeffRing, M: Monomial>(
 ) -> Result<Merge<R, M>, Fail>
     requires passes { passes_out turnstile ≡ 1 }
     requires pass { HasPass turnstile worker.old.pass }
-    ensures sender { worker.new.sender ≡ worker.old.sender }
+    ensures part { worker.new.part ≡ worker.old.part }
     ensures rings { IfOk result (λ m. m.rings ≡ (made_with turnstile).rings) }
 {
     let mut passes = Vec::with_capacity(alloc, 1)?;

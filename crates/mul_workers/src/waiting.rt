@@ -1,65 +1,28 @@
 //! How a worker waits whose ring is full.
 ghost use Rattle.std.specs.Prelude.{◌≡◌, ◌+◌, ◌<◌, ◌≤◌, map, length, IfOk, IfErr, IsTrue};
 ghost use Rattle.whole_laws.specs.Notes.{NoEnd, Carry, script_list};
-ghost use Rattle.turnstile.specs.Passes.{made_with, IsPassOf, IsOutside, entries, busy};
+ghost use Rattle.turnstile.specs.Passes.{made_with, IsPassOf, IsOutside, entries, busy, patience};
 ghost use Rattle.term_ring.specs.Names.{ring_name};
-ghost use Rattle.term_ring.specs.Sending.{Sends, ArePushed, IsRefused};
-ghost use Rattle.mul_workers.specs.Workers.{patience, IsReceipt, TriesOnce, MayGiveUp};
+ghost use Rattle.term_ring.specs.Sending.{Sends, IsRefused};
+ghost use Rattle.mul_workers.specs.Workers.{IsReceipt, TriesOnce, MayGiveUp};
 
 use crate::sender::Sender;
 use coeff_ring::CoeffRing;
 use global_heap::{Advance, Advanced, Merge};
 use packed_monomial::Monomial;
-use std::thread;
 use step_count::Steps;
 use term_ring::Ring;
-use turnstile::{Pass, Turnstile};
-
-/// How often at least a worker whose ring is full tries the turnstile before it gives up, where it finds it held each time.
-pub const PATIENCE: u64 = 64;
-
-// for how many turns a worker waits at first, and at most
-const FIRST_TURNS: u64 = 64;
-
-const MOST_TURNS: u64 = 4096;
+use turnstile::{MOST_TURNS, PATIENCE, Pass, Patience, Turnstile, rest};
 
 // With fewer places nearly every note is handed over by a yield, which beside other work gives a whole slice of the processor away.
 const FEW_PLACES: u32 = 64;
 
-/// For how many turns a worker waits whose ring stays full: twice as many where waiting helped, and half as many where it was in vain.
-#[derive(Drop)]
-pub(crate) struct Turns {
-    bound: u64,
-    most: u64,
-}
-
-impl Turns {
-    pub(crate) fn new() -> Turns {
-        Turns {
-            bound: FIRST_TURNS,
-            most: MOST_TURNS,
-        }
-    }
-
-    /// Of a worker whose ring has so many places: where these are few it waits for one turn.
-    pub(crate) fn of(places: u32) -> Turns {
-        if places < FEW_PLACES {
-            Turns { bound: 1, most: 1 }
-        } else {
-            Turns::new()
-        }
-    }
-
-    fn double(&mut self)
-        ensures some { 0 < self.new.bound }
-    {
-        self.bound = self.bound.saturating_mul(2).min(self.most).max(1);
-    }
-
-    fn halve(&mut self)
-        ensures some { 0 < self.new.bound }
-    {
-        self.bound = (self.bound / 2).max(1);
+/// The patience of a worker whose ring has so many places: where these are few it waits for one turn.
+pub(crate) fn patience_for(places: u32) -> Patience {
+    if places < FEW_PLACES {
+        Patience::new(1)
+    } else {
+        Patience::new(MOST_TURNS)
     }
 }
 
@@ -70,7 +33,7 @@ pub(crate) fn wait<R: CoeffRing, M: Monomial>(
     turnstile: &Turnstile<Merge<R, M>>,
     sender: &mut Sender<'_, R, M>,
     pass: &mut Pass<Merge<R, M>>,
-    turns: &mut Turns,
+    bound: &mut Patience,
     steps: &mut Steps,
 ) -> Result<(), Option<Advanced<R, M>>>
     requires pass { IsPassOf turnstile.now pass.old × IsOutside pass.old }
@@ -84,7 +47,7 @@ pub(crate) fn wait<R: CoeffRing, M: Monomial>(
     ensures busy { busy pass.old ≤ busy pass.new }
     ensures sends { Sends sender.old sender.new }
     ensures carried { Carry sender.new.ring.script sender.new.sent }
-    ensures pushed { ArePushed sender.old sender.new }
+    ensures looks { sender.old.full_looks ≤ sender.new.full_looks }
     ensures more { IfOk result (λ _. length sender.new.sent ≡ length sender.old.sent + 1) }
     ensures within { IfOk result (λ _. length sender.new.sent ≤ length (script_list sender.new.ring.script) + 1) }
     ensures clear { IfErr result (λ _. NoEnd sender.new.sent) }
@@ -96,12 +59,12 @@ pub(crate) fn wait<R: CoeffRing, M: Monomial>(
         advance_merge(rings, turnstile, pass, &mut receipt, steps);
         if let Ok(()) = sender.push(ring, steps) {
             if turn > 0 {
-                turns.double();
+                bound.helped();
             }
             return Ok(());
         }
-        if is_enough(turn + 1, turns.bound, &receipt) {
-            turns.halve();
+        if is_enough(turn + 1, bound, &receipt) {
+            bound.in_vain();
             return Err(receipt);
         }
         rest(turn);
@@ -109,25 +72,17 @@ pub(crate) fn wait<R: CoeffRing, M: Monomial>(
     Err(receipt)
 }
 
-// Whether a worker that waited so many turns gives up: where the merge has no room, or after so many turns as bound it.
+// Whether a worker that waited so many turns gives up: where the merge has no room, or where its patience is over, but with no receipt not before so many tries as `PATIENCE`.
 fn is_enough<R: CoeffRing, M: Monomial>(
     turns: u64,
-    bound: u64,
+    bound: &Patience,
     receipt: &Option<Advanced<R, M>>,
 ) -> bool
     ensures { IsTrue result → MayGiveUp turns receipt.now }
 {
     match receipt {
-        Some(last) => turns >= bound || matches!(last.answer(), Advance::OutFull),
-        None => turns >= bound && turns >= PATIENCE,
-    }
-}
-
-// Yields the thread, and after the first turn once more.
-fn rest(turn: u64) {
-    thread::yield_now();
-    if turn > 0 {
-        thread::yield_now();
+        Some(last) => bound.is_over(turns) || matches!(last.answer(), Advance::OutFull),
+        None => bound.is_over(turns) && turns >= PATIENCE,
     }
 }
 
@@ -148,6 +103,7 @@ fn advance_merge<R: CoeffRing, M: Monomial>(
 {
     if let Ok(mut merge) = turnstile.try_enter(pass) {
         let last = merge.advance(rings, steps);
+        merge.whole();
         turnstile.leave(pass, merge);
         *receipt = Some(last);
     }

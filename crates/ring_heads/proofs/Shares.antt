@@ -16,7 +16,7 @@ place_send : (M : RattleType) → IsSend M → IsSend (Place.the_row M)
 place_send M s = search sendable depth 14
 
 module _ (R M E : RattleType) (c : CoeffRing.Ghosts R.Denot E.Denot) (m : Monomial.Ghosts M.Denot) (o : Ord.Ghosts M.Denot) (e : PartialEq.Ghosts M.Denot) (p : PartialOrd.Ghosts M.Denot) where
-  heap_send : IsSend M → IsSend (ChainedHeap.the_row M m o e p)
+  pub heap_send : IsSend M → IsSend (ChainedHeap.the_row M m o e p)
   heap_send s = search (sendable, crosses, list_send, place_send) depth 24
 
   pub heads_send : IsSend M → IsSend E → IsSend (Heads.the_row R M E c m o e p)

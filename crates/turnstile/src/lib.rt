@@ -5,6 +5,7 @@
 
 mod gate;
 mod laws;
+mod members;
 mod named;
 mod own;
 mod passing;
@@ -15,6 +16,7 @@ mod view;
 
 pub use gate::{Gate, OpenGate};
 pub use laws::{one_inside, value_at_home};
+pub use members::{Member, hand_out, take_back};
 pub use named::Named;
 pub use passing::PATIENCE;
 pub use patience::{MOST_TURNS, Patience, rest};

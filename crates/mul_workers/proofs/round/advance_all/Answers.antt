@@ -7,11 +7,13 @@ use mathlib.Core.List.{[]}
 use mir.Syntax.{named}
 use Rattle.term_ring.proofs.Shares.{ring_sync}
 use Rattle.global_heap.proofs.Shares.{merge_send}
-use Rattle.mul_workers.proofs.Shares.{worker_send, turnstile_sync, captures_sync}
+use Rattle.turnstile.proofs.Sharing.{member_send, turnstile_sync}
+use Rattle.mul_workers.proofs.Shares.{part_send, captures_sync}
 use Rattle.term_ring.specs.Names.{RingName, NoneBelow, NoneBelow-itself, ring_name}
+use Rattle.global_heap.specs.Merges.{IsSound}
 use Rattle.global_heap.specs.Reached.{merge_name, merge_reached}
 use Rattle.term_ring.specs.Sending.{IsAmong}
-use Rattle.mul_workers.specs.Workers.{HasPass}
+use Rattle.turnstile.specs.Passes.{HasPass}
 use Rattle.mul_workers.specs.Rounds.{Moves}
 use Rattle.mul_workers.proofs.Steps.{all_move}
 use Rattle.mul_workers.proofs.round.advance_all.Goals as goal
@@ -19,19 +21,20 @@ use Rattle.mul_workers.proofs.round.advance_all.Goals as goal
 pub for_each_mut-requires-send-T : goal.for_each_mut-requires-send-T
 for_each_mut-requires-send-T g c κs within =
     let b = c.type_bounds in
-    param_send _ _ (arg_send _ yes _ (worker_send _ _ _ g.R.CoeffRing g.M.Monomial g.M.Ord g.M.PartialEq g.M.PartialOrd _ b.send-R b.send-M b.send-R-E b.sync-R b.sync-M b.sync-R-E))
+    let merge = merge_send (copied 1 g.row.R) (copied 2 g.row.M) (copied 4 g.row.R-E) g.R.CoeffRing g.M.Monomial g.M.Ord g.M.PartialEq g.M.PartialOrd b.send-R b.send-M b.send-R-E in
+    param_send _ _ (arg_send _ yes _ (member_send _ _ (part_send _ _ _ g.R.CoeffRing g.M.Monomial g.M.Ord g.M.PartialEq g.M.PartialOrd _ b.send-R b.send-M b.send-R-E b.sync-R b.sync-M b.sync-R-E) merge))
 
 pub for_each_mut-requires-sync-F : goal.for_each_mut-requires-sync-F
 for_each_mut-requires-sync-F g c κs within =
     let b = c.type_bounds in
     let rings = ring_sync (copied 1 g.row.R) (copied 2 g.row.M) (copied 4 g.row.R-E) g.R.CoeffRing g.R.Clone g.R.E.Clone g.M.Monomial g.M.Clone g.M.Ord g.M.Eq g.M.PartialEq g.M.PartialOrd b.sync-R in
-    let turn = turnstile_sync _ record { naming = List RingName; reaching = List ℕ; name = merge_name; reached = merge_reached; follows = NoneBelow; follows_itself = NoneBelow-itself } (merge_send (copied 1 g.row.R) (copied 2 g.row.M) (copied 4 g.row.R-E) g.R.CoeffRing g.M.Monomial g.M.Ord g.M.PartialEq g.M.PartialOrd b.send-R b.send-M b.send-R-E) in
+    let turn = turnstile_sync _ record { naming = List RingName; reaching = List ℕ; name = merge_name; reached = merge_reached; follows = NoneBelow; whole = IsSound g.M.Monomial.LIM; follows_itself = NoneBelow-itself } (merge_send (copied 1 g.row.R) (copied 2 g.row.M) (copied 4 g.row.R-E) g.R.CoeffRing g.M.Monomial g.M.Ord g.M.PartialEq g.M.PartialOrd b.send-R b.send-M b.send-R-E) in
     let all = captures_sync [] record { mir = named 7; lft = κs.1.1.1.1.1.1.1.0 } record { mir = named 8; lft = κs.1.1.1.1.1.1.1.1.0 } record { mir = named 9; lft = κs.1.1.1.1.1.1.1.1.1.0 } _ _ _ rings turn b.sync-G in
     record { shared = all.shared }
 
 pub for_each_mut-requires-clause-accepts : goal.for_each_mut-requires-clause-accepts
 for_each_mut-requires-clause-accepts g c κs within = let b = c.type_bounds in λ i p lt is.
-    let h = subst (λ w. HasPass c.args.turnstile.now w.pass × IsAmong (map ring_name c.args.rings.now) w.sender) (sym is) (c.requires.have i p.now lt) in
+    let h = subst (λ w. HasPass c.args.turnstile.now w.pass × IsAmong (map ring_name c.args.rings.now) w.worker.sender) (sym is) (c.requires.have i p.now lt) in
     ((h.0, c.requires.rings, h.1), search rules)
 
 pub returns-then-count-gt0-clause-have : goal.returns-then-count-gt0-clause-have
@@ -40,12 +43,12 @@ returns-then-count-gt0-clause-have g c = λ k d lt.
     subst (λ w. HasPass c.args.turnstile.now w.pass) e.left e.call.0
 
 pub returns-then-count-gt0-clause-moves : goal.returns-then-count-gt0-clause-moves
-returns-then-count-gt0-clause-moves g c = all_move (λ w. w.sender) c.args.workers.now c.for_each_mut.new.s c.for_each_mut.auto.s (λ k d lt.
+returns-then-count-gt0-clause-moves g c = all_move (λ w. w.worker.sender) c.args.workers.now c.for_each_mut.new.s c.for_each_mut.auto.s (λ k d lt.
     let e = (c.for_each_mut.ensures k d lt).1 in
-    subst (λ w. Moves (get_or c.args.workers.now k d).sender w.sender) e.left (subst (λ w. Moves w.sender e.after_call.now.sender) e.argument_is e.call.1))
+    subst (λ w. Moves (get_or c.args.workers.now k d).worker.sender w.worker.sender) e.left (subst (λ w. Moves w.worker.sender e.after_call.now.worker.sender) e.argument_is e.call.1))
 
 pub returns-else-count-gt0-clause-moves : goal.returns-else-count-gt0-clause-moves
 returns-else-count-gt0-clause-moves g c = record {
   long = refl;
-  each = λ k d lt. absurd (let l = length-map c.args.workers.now (λ w. w.sender) in let z = c.if-count-gt0.false in omega arith);
+  each = λ k d lt. absurd (let l = length-map c.args.workers.now (λ w. w.worker.sender) in let z = c.if-count-gt0.false in omega arith);
 }

@@ -1,19 +1,28 @@
 use Rattle.std.proofs.Common.{List, get_or, map, refl, ◌∙◌, subst, arith}
 use Rattle.std.proofs.lemmas.List.{length-map}
-use Rattle.term_ring.specs.Names.{RingName}
+use Rattle.term_ring.specs.Names.{RingName, NoneBelow-itself}
 use Rattle.global_heap.proofs.Steps.{NoneBelow-trans}
 use Rattle.term_ring.specs.Sending.{IsAmong}
 use Rattle.mul_workers.proofs.Teams.{members_among}
-use Rattle.mul_workers.proofs.Steps.{member_here, met_here, all_met}
+use Rattle.mul_workers.proofs.Steps.{meets_first, member_here, met_here, all_met}
 use Rattle.mul_workers.proofs.round.meet_all.Goals as goal
 
 pub meet-requires-clause-ring : goal.meet-requires-clause-ring
 meet-requires-clause-ring g c κs within =
     let i = c.loop-worker.invariant in
     let r = c.index-workers-worker.result in
-    let m = member_here (λ w. w.sender) c.args.merge.now.rings c.loop-worker.merge c.args.workers.now c.loop-worker.workers c.loop-worker.worker r c.requires.members i.meets c.loop-worker-test.true in
+    let m = member_here (λ w. w.worker.sender) c.args.merge.now.rings c.loop-worker.merge c.args.workers.now c.loop-worker.workers c.loop-worker.worker r c.requires.members i.meets c.loop-worker-test.true in
     let w = get_or c.loop-worker.workers c.loop-worker.worker r in
-    subst (λ (n : List RingName). IsAmong n w.sender) c.requires.rings (members_among c.args.merge.now.rings c.loop-worker.worker w.sender m)
+    subst (λ (n : List RingName). IsAmong n w.worker.sender) c.requires.rings (members_among c.args.merge.now.rings c.loop-worker.worker w.worker.sender m)
+
+pub loop-worker-init : goal.loop-worker-init
+loop-worker-init g c = record {
+  state = refl;
+  rings = refl;
+  spare = refl;
+  tails = NoneBelow-itself c.args.merge.now.tails;
+  meets = meets_first c.args.merge.now (map (λ w. w.worker.sender) c.args.workers.now);
+}
 
 pub loop-worker-preserved : goal.loop-worker-preserved
 loop-worker-preserved g c =
@@ -24,9 +33,9 @@ loop-worker-preserved g c =
       rings = e.rings ∙ i.rings;
       spare = e.spare ∙ i.spare;
       tails = NoneBelow-trans _ _ _ i.tails e.tails;
-      meets = met_here (λ w. w.sender) c.loop-worker.merge c.meet.new.merge c.args.workers.now c.loop-worker.workers c.loop-worker.worker c.index-workers-worker.result _ c.meet.new.self.sender refl i.meets e.state e.tails (let t = c.loop-worker-test.true in let l = c.loop-worker.auto.workers in omega arith) record { sends = e.sends; same = e.sent; met = e.met };
+      meets = met_here (λ w. w.worker.sender) c.loop-worker.merge c.meet.new.merge c.args.workers.now c.loop-worker.workers c.loop-worker.worker c.index-workers-worker.result _ c.meet.new.self.sender refl i.meets e.state e.tails (let t = c.loop-worker-test.true in let l = c.loop-worker.auto.workers in omega arith) record { sends = e.sends; same = e.sent; met = e.met };
     }
 
 pub returns-clause-meet : goal.returns-clause-meet
-returns-clause-meet g c = all_met c.loop-worker.merge (map (λ w. w.sender) c.args.workers.now) (map (λ w. w.sender) c.loop-worker.workers) c.loop-worker.worker c.loop-worker.invariant.meets
-    (let l = length-map c.args.workers.now (λ w. w.sender) in let t = c.loop-worker-test.false in omega arith)
+returns-clause-meet g c = all_met c.loop-worker.merge (map (λ w. w.worker.sender) c.args.workers.now) (map (λ w. w.worker.sender) c.loop-worker.workers) c.loop-worker.worker c.loop-worker.invariant.meets
+    (let l = length-map c.args.workers.now (λ w. w.worker.sender) in let t = c.loop-worker-test.false in omega arith)

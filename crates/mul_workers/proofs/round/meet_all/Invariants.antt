@@ -9,5 +9,5 @@ invariant-loop-worker g l = record {
   rings : l.merge.rings ≡ l.initial.merge.rings;
   spare : l.merge.spare ≡ l.initial.merge.spare;
   tails : NoneBelow l.initial.merge.tails l.merge.tails;
-  meets : MeetsUpTo l.merge (map (λ w. w.sender) l.initial.workers) (map (λ w. w.sender) l.workers) l.worker;
+  meets : MeetsUpTo l.merge (map (λ w. w.worker.sender) l.initial.workers) (map (λ w. w.worker.sender) l.workers) l.worker;
 }

@@ -4,7 +4,7 @@ use Rattle.mul_workers.proofs.Bounds.{taken_within, taken_all, few_taken, round_
 use Rattle.mul_workers.proofs.rounds.finish.Goals as goal
 
 pub round-requires-clause-team : goal.round-requires-clause-team
-round-requires-clause-team g c κs within = team_still c.loop-merge.merge c.reserve.new.self (map (λ w. w.sender) c.loop-merge.workers) c.reserve.ensures.state c.reserve.ensures.rings c.loop-merge.invariant.team
+round-requires-clause-team g c κs within = team_still c.loop-merge.merge c.reserve.new.self (map (λ w. w.worker.sender) c.loop-merge.workers) c.reserve.ensures.state c.reserve.ensures.rings c.loop-merge.invariant.team
 
 pub overflow_add-rounds : goal.overflow_add-rounds
 overflow_add-rounds g c =

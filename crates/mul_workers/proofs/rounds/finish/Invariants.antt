@@ -8,7 +8,7 @@ use Rattle.mul_workers.proofs.rounds.finish.Given as goal
 abbrev pub invariant-loop-merge : goal.invariant-loop-merge
 invariant-loop-merge g l = record {
   rings : l.merge.rings ≡ l.initial.merge.rings;
-  team : IsTeam l.merge (map (λ w. w.sender) l.workers);
+  team : IsTeam l.merge (map (λ w. w.worker.sender) l.workers);
   sound : IsSound g.M.Monomial.LIM l.merge;
   count : l.rounds ≤ notes_count l.merge.state.taken;
 }

@@ -20,4 +20,4 @@ pub returns-clause-among : goal.returns-clause-among
 returns-clause-among g c =
     let r = c.in_ok-ring.ensures in
     let s = c.new-worker.ensures.sender in
-    one_among (ring_name c.in_ok-ring.ring) c.new-worker.result.sender (ap (λ v. v.worker) s) (ap (λ v. v.ring) s ∙ name_of_writer c.in_ok-ring.ring c.in_ok-ring.writer r.writer)
+    one_among (ring_name c.in_ok-ring.ring) c.new-worker.result.part.sender (ap (λ v. v.worker) s) (ap (λ v. v.ring) s ∙ name_of_writer c.in_ok-ring.ring c.in_ok-ring.writer r.writer)

@@ -2,7 +2,8 @@ use Rattle.std.proofs.Common.{rules, ◌≡◌, [], ◌∷◌, All, sym, subst, 
 use Rattle.turnstile.specs.Passes.{IsPassOf, IsOutside}
 use Rattle.turnstile.specs.declared.turn.Pass.{Pass}
 use Rattle.global_heap.specs.Merges.{MergeView}
-use Rattle.mul_workers.proofs.Steps.{one_has, its_pass, no_pass}
+use Rattle.turnstile.proofs.Lists.{one_has}
+use Rattle.turnstile.proofs.Passes.{its_pass, no_pass}
 use Rattle.mul_workers.proofs.tests.take_merge.Goals as goal
 
 pub unreachable-requires : goal.unreachable-requires

@@ -1,7 +1,7 @@
 use Rattle.std.proofs.Common.{◌+◌, map, sym, ◌∙◌, subst, arith}
 use Rattle.whole_laws.specs.Notes.{NoEnd}
 use Rattle.term_ring.specs.Names.{ring_name}
-use Rattle.mul_workers.proofs.Sending.{Sends-trans, one_push}
+use Rattle.mul_workers.proofs.Sending.{Sends-trans}
 use Rattle.mul_workers.proofs.GivingUp.{gives_up}
 use Rattle.mul_workers.proofs.waiting.wait.Goals as goal
 
@@ -21,9 +21,9 @@ loop-turn-preserved g c =
       busy = let a = i.busy in let b = e.busy in omega arith;
       sends = Sends-trans c.args.sender.now c.loop-turn.sender c.push.new.self i.sends c.push.ensures.sends;
       same = k ∙ i.same;
-      pushed = let a = i.pushed in let d = one_push c.loop-turn.sender c.push.new.self c.push.result c.push.ensures.more c.push.ensures.kept c.push.ensures.loads in omega arith;
+      looks = let a = i.looks in let d = c.in_default.ensures.refused.1 in omega arith;
       carried = c.push.ensures.carried;
       clear = subst NoEnd (sym k) i.clear;
-      refused = c.in_default.ensures.refused;
+      refused = c.in_default.ensures.refused.0;
       receipt = e.receipt c.args.pass.now c.loop-turn.turn i.entries i.receipt;
     }

@@ -2,7 +2,7 @@ use Rattle.std.proofs.Common.{rules, ◌≡◌, ◌<◌, [], map, sym, subst, ar
 use Rattle.term_ring.specs.Ends.{taken}
 use Rattle.term_ring.specs.Names.{ring_name, reader_name, IsReading}
 use Rattle.mul_workers.specs.Products.{product_of}
-use Rattle.mul_workers.proofs.Steps.{one_more}
+use Rattle.turnstile.proofs.Lists.{one_more}
 use Rattle.mul_workers.proofs.Hiring.{AreHired, none_hired, names_more, hired_more, name_of_reader, hired_scripts, hired_members}
 use Rattle.mul_workers.proofs.team.Team.new.Goals as goal
 
@@ -15,7 +15,7 @@ loop-worker-init g c = record {
   names = search rules;
   reading = search rules;
   taken = search rules;
-  hired = none_hired (product_of g.M.Monomial.order g.M.Monomial.VARS c.args.f.now c.args.g.now) c.args.workers ring_name (λ w. w.sender) c.in-Ok.rings.items c.in-Ok-with_capacity-2.team.items (search rules) (search rules);
+  hired = none_hired (product_of g.M.Monomial.order g.M.Monomial.VARS c.args.f.now c.args.g.now) c.args.workers ring_name (λ w. w.worker.sender) c.in-Ok.rings.items c.in-Ok-with_capacity-2.team.items (search rules) (search rules);
 }
 
 pub loop-worker-preserved : goal.loop-worker-preserved
@@ -34,7 +34,7 @@ loop-worker-preserved g c =
       names = names_more c.loop-worker.readers.items c.push_reserved-in-loop-worker.new.self.items c.in_ok-ring.reader c.loop-worker.rings.items c.push_reserved.new.self.items c.in_ok-ring.ring b.items a.items reader_name ring_name i.names (name_of_reader c.in_ok-ring.ring c.in_ok-ring.reader h.reader);
       reading = one_more IsReading c.loop-worker.readers.items c.push_reserved-in-loop-worker.new.self.items c.in_ok-ring.reader b.items i.reading h.reader.0;
       taken = one_more (λ r. taken r ≡ []) c.loop-worker.readers.items c.push_reserved-in-loop-worker.new.self.items c.in_ok-ring.reader b.items i.taken h.taken;
-      hired = hired_more c.loop-worker.rings.items c.push_reserved.new.self.items c.in_ok-ring.ring c.loop-worker.team.items c.push_reserved-in-loop-worker-2.new.self.items c.in_ok-ring.member a.items d.items ring_name (λ w. w.sender) m c.args.workers c.loop-worker.worker i.hired
+      hired = hired_more c.loop-worker.rings.items c.push_reserved.new.self.items c.in_ok-ring.ring c.loop-worker.team.items c.push_reserved-in-loop-worker-2.new.self.items c.in_ok-ring.member a.items d.items ring_name (λ w. w.worker.sender) m c.args.workers c.loop-worker.worker i.hired
           record { script = h.script; places = subst (λ n. 0 < n) (sym h.places) c.requires.places; sender = h.worker };
     }
 
@@ -43,7 +43,7 @@ returns-clause-scripts g c =
     let i = c.loop-worker.invariant in
     let m = product_of g.M.Monomial.order g.M.Monomial.VARS c.args.f.now c.args.g.now in
     let names = map ring_name c.loop-worker.rings.items in
-    let team = map (λ w. w.sender) c.loop-worker.team.items in
+    let team = map (λ w. w.worker.sender) c.loop-worker.team.items in
     hired_scripts m c.args.workers names team (subst (λ n. AreHired m c.args.workers names team n) (let b = i.below in let t = c.loop-worker-test.false in omega arith) i.hired)
 
 pub returns-clause-members : goal.returns-clause-members
@@ -51,5 +51,5 @@ returns-clause-members g c =
     let i = c.loop-worker.invariant in
     let m = product_of g.M.Monomial.order g.M.Monomial.VARS c.args.f.now c.args.g.now in
     let names = map ring_name c.loop-worker.rings.items in
-    let team = map (λ w. w.sender) c.loop-worker.team.items in
+    let team = map (λ w. w.worker.sender) c.loop-worker.team.items in
     hired_members m c.args.workers names team (subst (λ n. AreHired m c.args.workers names team n) (let b = i.below in let t = c.loop-worker-test.false in omega arith) i.hired)

@@ -14,5 +14,5 @@ invariant-loop-worker g l = record {
   names : map reader_name l.readers.items ≡ map ring_name l.rings.items;
   reading : All IsReading l.readers.items;
   taken : All (λ r. taken r ≡ []) l.readers.items;
-  hired : AreHired (product_of g.M.Monomial.order g.M.Monomial.VARS l.f l.g) l.workers (map ring_name l.rings.items) (map (λ w. w.sender) l.team.items) l.worker;
+  hired : AreHired (product_of g.M.Monomial.order g.M.Monomial.VARS l.f l.g) l.workers (map ring_name l.rings.items) (map (λ w. w.worker.sender) l.team.items) l.worker;
 }

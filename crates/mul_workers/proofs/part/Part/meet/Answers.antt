@@ -1,7 +1,7 @@
 use Rattle.std.proofs.Common.{List, length, get_or, map, sym, ap, ◌∙◌, arith}
 use Rattle.std.proofs.Math.ListN.{get_or-map}
 use Rattle.term_ring.specs.Names.{RingName, ring_name}
-use Rattle.mul_workers.proofs.worker.MulWorker.meet.Goals as goal
+use Rattle.mul_workers.proofs.part.Part.meet.Goals as goal
 
 pub meet-requires-clause-worker : goal.meet-requires-clause-worker
 meet-requires-clause-worker g c κs within =

@@ -1,8 +1,8 @@
 use Rattle.std.proofs.Common.{◌+◌, ◌-◌, ◌≤◌, length}
 use Rattle.whole_laws.specs.Notes.{script_list}
 use Rattle.turnstile.specs.Passes.{IsPassOf, IsOutside, entries, busy}
-use Rattle.term_ring.specs.Sending.{Sends, ArePushed}
-use Rattle.mul_workers.proofs.worker.work.Given as goal
+use Rattle.term_ring.specs.Sending.{Sends}
+use Rattle.mul_workers.proofs.part.work.Given as goal
 
 abbrev pub invariant-loop-sender : goal.invariant-loop-sender
 invariant-loop-sender g l = record {
@@ -10,7 +10,7 @@ invariant-loop-sender g l = record {
   entries : entries l.initial.pass ≤ entries l.pass;
   busy : busy l.initial.pass ≤ busy l.pass;
   sends : Sends l.initial.sender l.sender;
-  pushed : ArePushed l.initial.sender l.sender;
+  looks : l.initial.sender.full_looks ≤ l.sender.full_looks;
 }
 
 abbrev pub decreases-loop-sender : goal.decreases-loop-sender

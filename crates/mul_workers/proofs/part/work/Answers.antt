@@ -1,6 +1,6 @@
 use Rattle.std.proofs.Common.{arith}
 use Rattle.mul_workers.proofs.Sending.{Sends-trans}
-use Rattle.mul_workers.proofs.worker.work.Goals as goal
+use Rattle.mul_workers.proofs.part.work.Goals as goal
 
 pub loop-sender-preserved : goal.loop-sender-preserved
 loop-sender-preserved g c =
@@ -11,5 +11,5 @@ loop-sender-preserved g c =
       entries = let a = i.entries in let b = e.entries in omega arith;
       busy = let a = i.busy in let b = e.busy in omega arith;
       sends = Sends-trans c.args.sender.now c.loop-sender.sender c.wait.new.sender i.sends (Sends-trans c.loop-sender.sender c.send.new.self c.wait.new.sender c.send.ensures.sends e.sends);
-      pushed = let a = i.pushed in let b = c.send.ensures.pushed in let d = e.pushed in omega arith;
+      looks = let a = i.looks in let b = c.send.ensures.looks in let d = e.looks in omega arith;
     }

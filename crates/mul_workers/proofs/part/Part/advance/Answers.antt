@@ -1,7 +1,7 @@
 use Rattle.std.proofs.Common.{get_or, map, sym, ap, ◌∙◌}
 use Rattle.std.proofs.Math.ListN.{get_or-map}
 use Rattle.term_ring.specs.Names.{ring_name}
-use Rattle.mul_workers.proofs.worker.MulWorker.advance.Goals as goal
+use Rattle.mul_workers.proofs.part.Part.advance.Goals as goal
 
 pub work-requires-clause-ring : goal.work-requires-clause-ring
 work-requires-clause-ring g c κs within =
