@@ -6,6 +6,8 @@ use mathlib.Core.List.{IsPrefix}
 use Rattle.sdmp_laws.specs.Order.{Order, alike, is_below}
 use Rattle.sdmp_laws.specs.Ring.{red}
 use Rattle.sdmp_laws.specs.Poly.{Term, is_zero, keep, put, term_plus, terms, times, row, every, part}
+use Rattle.sdmp_laws.proofs.ListLemmas.{length-times}
+use Rattle.sdmp_laws.proofs.PlaceLemmas.{length_prefix}
 use Rattle.sdmp_laws.proofs.OrderLemmas.{Three, is_less, is_equal, is_greater, numbers}
 use Rattle.whole_laws.specs.Notes.{Note, TermNote, MarkNote, EndNote, Product, Script, ProductScript, script_list, terms_in, NoEnd, MarkMayFollow, MayFollow, EndMayFollow, CarryAfter, Carry}
 use Rattle.whole_laws.specs.Wholes.{MergeState, MergeWhole, notes_of, merge_script}
@@ -36,16 +38,6 @@ length-terms : (ord : Order) (p : ℕ) (F : List Term) → length (terms ord p F
 unfolding terms
 length-terms ord p [] = omega arith
 length-terms ord p (t ∷ F) = let i = length-terms ord p F in let k = length-put ord p t (terms ord p F) in omega arith
-
-length-row : (s : Term) (B : List Term) → length (row s B) ≡ length B
-unfolding row
-length-row s [] = refl
-length-row s (t ∷ B) = ap suc (length-row s B)
-
-pub length-times : (A B : List Term) → length (times A B) ≡ length A * length B
-unfolding times
-length-times [] B = omega arith
-length-times (s ∷ A) B = let i = length-times A B in let k = length-append (row s B) (times A B) in let r = length-row s B in omega arith
 
 -- ---- the rows of all workers
 -- the weight of the rows of A from i on that the k workers from w on have
@@ -149,7 +141,7 @@ few_notes lim m W fit few =
     omega arith
 
 -- ---- the notes of one worker
-no_mark : (m : Product) (W w : ℕ) (before : List Note) (k : ℕ) (top : Option (List ℕ)) → MayFollow (ProductScript m W w) before (MarkNote k top) → ⊥
+pub no_mark : (m : Product) (W w : ℕ) (before : List Note) (k : ℕ) (top : Option (List ℕ)) → MayFollow (ProductScript m W w) before (MarkNote k top) → ⊥
 unfolding MayFollow MarkMayFollow
 no_mark m W w before k top h = h.1
 
@@ -178,13 +170,10 @@ notes_length m W w before (TermNote t ∷ notes) h = let i = notes_length m W w 
 notes_length m W w before (MarkNote k top ∷ notes) h = absurd (no_mark m W w before k top h.0)
 notes_length m W w before (EndNote ∷ notes) h = let n = nothing_after (ProductScript m W w) before notes h.1 in omega arith
 
-prefix_length : (A B : List Term) → IsPrefix A B → length A ≤ length B
-prefix_length A B p = let l = length-append A p.0 in let e = ap (λ (L : List Term). length L) p.1 in omega arith
-
 pub notes_within : (m : Product) (W w : ℕ) (notes : List Note) → Carry (ProductScript m W w) notes → length notes ≤ length (script_list (ProductScript m W w)) + 1
 notes_within m W w notes c =
     let n = notes_length m W w [] notes c in
-    let p = prefix_length (terms_in notes) (script_list (ProductScript m W w)) (Carry-prefix (ProductScript m W w) notes c) in
+    let p = length_prefix (terms_in notes) (script_list (ProductScript m W w)) (Carry-prefix (ProductScript m W w) notes c) in
     omega arith
 
 -- after the End all terms were taken

@@ -3,6 +3,7 @@ use Rattle.std.proofs.Common.{◌≡◌, ◌⊎◌, inl, inr, ℕ, zero, suc, �
 use Rattle.sdmp_laws.specs.Order.{Order, alike}
 use Rattle.sdmp_laws.specs.Poly.{Term, coef, is_zero, without}
 use Rattle.sdmp_laws.specs.Division.{AllAtOrBelow, AtOrAbove}
+use Rattle.sdmp_laws.proofs.PolyLemmas.{length_without}
 use Rattle.whole_laws.specs.Notes.{Note, EndNote, NoEnd, has}
 use Rattle.whole_laws.specs.Wholes.{MergeState, head_terms, notes_of, head_of_worker, merge_emit, clear_at, IsReady, IsMergeCandidate}
 use Rattle.whole_laws.proofs.StepLemmas.{cleared}
@@ -32,22 +33,13 @@ is_candidate s p t served top l = record { vector = l; heads_below = top.top.gre
     pick w (inr b) = inr b
 
 -- ---- fewer heads
-without_le : (x : List ℕ) (L : List Term) → length (without x L) ≤ length L
-unfolding without
-without_le x [] = omega arith
-without_le x (t ∷ L) = pick (alike t.monomial x) (without_le x L)
-  where
-    pick : (b : Bool) → length (without x L) ≤ length L → length (cond b (without x L) (t ∷ without x L)) ≤ length (t ∷ L)
-    pick true i = omega arith
-    pick false i = omega arith
-
 without_less : (x : List ℕ) (L : List Term) → has x L ≡ true → length (without x L) < length L
 unfolding without has
 without_less x [] h = absurd (true≢false (sym h))
 without_less x (t ∷ L) h = pick (alike t.monomial x) (without_less x L) h
   where
     pick : (b : Bool) → (has x L ≡ true → length (without x L) < length L) → (b || has x L) ≡ true → length (cond b (without x L) (t ∷ without x L)) < length (t ∷ L)
-    pick true i h = let w = without_le x L in omega arith
+    pick true i h = let w = length_without x L in omega arith
     pick false i h = let w = i h in omega arith
 
 emit_heads : (s : MergeState) (x : List ℕ) → (merge_emit s x).heads ≡ clear_at x s.heads

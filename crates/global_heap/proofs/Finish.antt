@@ -2,7 +2,8 @@
 use Rattle.std.proofs.Common.{◌≡◌, ◌≢◌, ℕ, zero, suc, ◌+◌, ◌*◌, ◌<◌, ◌≤◌, Bool, true, false, List, [], ◌∷◌, ◌++◌, length, get_or, sum_by, Option, Some, None, unsigned_abs, refl, sym, ap, subst, arith, true≢false}
 use Rattle.std.proofs.Math.Nat.{mul-le-mul}
 use mathlib.Core.List.{IsPrefix}
-use Rattle.global_heap.proofs.Counts.{rows_from, rows_le, spread, length-times}
+use Rattle.sdmp_laws.proofs.ListLemmas.{length-times, AllDegrees-up}
+use Rattle.global_heap.proofs.Counts.{rows_from, rows_le, spread}
 use Rattle.sdmp_laws.specs.Order.{Order, degree}
 use Rattle.sdmp_laws.specs.Poly.{Term, terms, times, every, part, norm, lm, AllDegrees, IsPoly}
 use Rattle.sdmp_laws.specs.Limits.{greatest_norm, IsDegreeOver}
@@ -25,11 +26,6 @@ degrees_nil : (D : ℕ) → AllDegrees D []
 unfolding AllDegrees
 degrees_nil D = tt
 
-degrees_up : (D E : ℕ) (L : List Term) → D ≤ E → AllDegrees D L → AllDegrees E L
-unfolding AllDegrees
-degrees_up D E [] l h = tt
-degrees_up D E (t ∷ L) l h = ((let d = h.0 in omega arith), degrees_up D E L l h.1)
-
 times_nil_left : (B : List Term) → times [] B ≡ []
 unfolding times
 times_nil_left B = refl
@@ -48,7 +44,7 @@ product_degrees ord p n lim (t ∷ f) (u ∷ g) a b room =
     let laws = degree_laws ord p n in
     let D : ℕ = degree (lm (t ∷ f)) in
     let E : ℕ = degree (lm (u ∷ g)) in
-    degrees_up (D + E) lim (times (t ∷ f) (u ∷ g)) (small (numbers lim (D + E))) (laws.1 D E (t ∷ f) (u ∷ g) (laws.0 (t ∷ f) a) (laws.0 (u ∷ g) b))
+    AllDegrees-up (D + E) lim (times (t ∷ f) (u ∷ g)) (small (numbers lim (D + E))) (laws.1 D E (t ∷ f) (u ∷ g) (laws.0 (t ∷ f) a) (laws.0 (u ∷ g) b))
   where
     cons_nil : (v : Term) (L : List Term) → v ∷ L ≢ []
     cons_nil v L e = true≢false (ap (λ (K : List Term). elim K as (λ _. Bool) [ [] ↦ false | w ∷ M ↦ true ]) e)

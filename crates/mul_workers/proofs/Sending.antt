@@ -15,16 +15,12 @@ use Rattle.term_ring.specs.declared.note.NoteOf.TheVariants as note
 use Rattle.term_ring.specs.declared.ring.Ring.{Ring}
 use Rattle.term_ring.specs.declared.ring.Writer.{Writer}
 use Rattle.term_ring.specs.Names.{ring_name, writer_name, IsWriting}
-use Rattle.global_heap.proofs.Counts.{notes_within}
+use Rattle.global_heap.proofs.Counts.{notes_within, no_mark}
 use Rattle.global_heap.proofs.Sound.{NoEnd-more}
 use Rattle.term_ring.specs.Sending.{SenderView, sender_view, whole_script, Sends, is_end}
 use Rattle.mul_workers.specs.Inside.{script_of_rows, IsNextNote, IsUnsent, KeptBelongs, IsSender}
 
 -- ---- one note of a product's script
-no_mark : (m : Product) (W w : ℕ) (before : List Note) (k : ℕ) (top : Option (List ℕ)) → MayFollow (ProductScript m W w) before (MarkNote k top) → ⊥
-unfolding MayFollow MarkMayFollow
-no_mark m W w before k top h = h.1
-
 may_follow : (m : Product) (W w : ℕ) (notes : List Note) (unsent rest : List Term) (x : Note) → NoEnd notes → terms_in notes ++ unsent ≡ script_list (ProductScript m W w) → IsNextNote unsent x rest → MayFollow (ProductScript m W w) notes x
 unfolding MayFollow EndMayFollow
 may_follow m W w notes unsent rest (TermNote t) clear all next =
