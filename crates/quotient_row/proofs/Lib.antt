@@ -1,6 +1,5 @@
 pub mod Carrying
 pub mod EachMoment
-pub mod Examples
 pub mod RuleStays
 pub mod Shares
 pub mod Spelled

@@ -1,5 +1,4 @@
 pub mod Ends
-pub mod Examples
 pub mod Legal
 pub mod Moments
 pub mod Names

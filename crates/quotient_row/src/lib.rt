@@ -16,6 +16,3 @@ mod writer;
 pub use laws::{row_at_each_moment, row_terms_are_next};
 pub use note::{RowNote, RowNoteOf};
 pub use row::{Nothing, Row, RowFull, RowReader, RowWriter};
-
-#[cfg(test)]
-mod tests;

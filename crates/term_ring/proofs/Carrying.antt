@@ -1,14 +1,17 @@
 -- The rule of the notes, said of typed notes.
-use Rattle.std.proofs.Common.{◌≡◌, ℕ, ℤ, ◌+◌, ◌<◌, List, [], ◌∷◌, ◌++◌, map, take, drop, length, get_or, refl, sym, ap, ◌∙◌, subst, append_assoc, append-nil}
+use Rattle.std.proofs.Common.{◌≡◌, ℕ, ℤ, ◌+◌, ◌<◌, List, [], ◌∷◌, ◌++◌, map, take, drop, length, get_or, refl, sym, ap, ◌∙◌, subst, append_assoc, append-nil, All}
 use Rattle.std.proofs.lemmas.List.{map-append, take_more, take-append-drop}
+use Rattle.std.proofs.lemmas.List.Elements.{All-push, All-map}
 use Rattle.sdmp_laws.specs.Poly.{Term as PlainTerm}
 use Rattle.canonical_terms.specs.View.{term_of, sum_of}
 use Rattle.canonical_terms.specs.declared.term.TermOf.{TermOf}
 use Rattle.whole_laws.specs.Notes.{Script, ProductScript, Product, Note, TermNote, MarkNote, EndNote, Carry, CarryAfter, MayFollow, EndMayFollow, NoEnd, terms_in, script_list}
 use Rattle.whole_laws.proofs.NotesLemmas.{Carry-front, terms_in-append}
 use Rattle.term_ring.specs.declared.note.NoteOf.{NoteOf}
+use Rattle.term_ring.specs.declared.note.NoteOf.TheVariants.{Term, End}
+use Rattle.term_ring.specs.Plain.{modulus_of}
 use Rattle.term_ring.specs.Spelling.{note_of, notes_of}
-use Rattle.term_ring.specs.Carried.{Carries, whole}
+use Rattle.term_ring.specs.Carried.{Fits, Carries, whole}
 
 module _ {M E : Type 0} (vector : M → List ℕ) (value : E → ℤ) (s : Script) where
   pub carries_none : Carries {M = M} {E = E} vector value s []
@@ -57,3 +60,7 @@ pub carries_whole : {M E : Type 0} (vector : M → List ℕ) (value : E → ℤ)
     → sum_of vector value ts ≡ script_list (ProductScript m W w) → Carries vector value (ProductScript m W w) (whole ts)
 unfolding terms_in NoEnd
 carries_whole vector value m W w ts e = subst (Carry (ProductScript m W w)) (sym (plain_whole vector value ts)) (all_after m W w [] (sum_of vector value ts) tt e)
+
+-- a whole list of terms that belong fits
+pub fits_whole : {M E : Type 0} (belongs : ℕ → E → Type 0) (s : Script) (ts : List (TermOf M E)) → All (λ t. belongs (modulus_of s) t.coef) ts → All (Fits belongs s) (whole ts)
+fits_whole belongs s ts h = All-push (Fits belongs s) (map (λ t. Term t) ts) End (All-map (Fits belongs s) (λ t. Term t) ts h) tt

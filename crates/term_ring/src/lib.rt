@@ -20,6 +20,3 @@ pub use ring::{Empty, Full, Reader, Ring, Writer};
 pub use scalars::Scalars;
 pub use script::Script;
 pub use view::View;
-
-#[cfg(test)]
-mod tests;

@@ -21,6 +21,3 @@ pub use named::Named;
 pub use passing::PATIENCE;
 pub use patience::{MOST_TURNS, Patience, rest};
 pub use turn::{Busy, Pass, Refused, Turnstile};
-
-#[cfg(test)]
-mod tests;

@@ -8,8 +8,7 @@ use Rattle.packed_monomial.specs.declared.packed.Packed.{Packed}
 use Rattle.whole_laws.specs.Notes.{Product, ProductScript, script_list}
 use Rattle.term_ring.specs.Carried.{Fits, Carries, whole}
 use Rattle.term_ring.specs.Ends.{script_in}
-use Rattle.term_ring.proofs.Carrying.{carries_whole}
-use Rattle.term_ring.proofs.Examples.{fits_whole}
+use Rattle.term_ring.proofs.Carrying.{carries_whole, fits_whole}
 use Rattle.row_merge.proofs.ProductTerms.{all_listed}
 use Rattle.thread_bench.proofs.passing.measure_ring.Goals as goal
 

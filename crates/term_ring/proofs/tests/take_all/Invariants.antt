@@ -1,5 +1,0 @@
-use Rattle.term_ring.specs.Ends.{IsReaderOf}
-use Rattle.term_ring.proofs.tests.take_all.Given as goal
-
-abbrev pub invariant-loop : goal.invariant-loop
-invariant-loop g l = IsReaderOf l.ring l.reader
