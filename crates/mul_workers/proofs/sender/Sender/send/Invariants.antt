@@ -1,4 +1,4 @@
-use Rattle.std.proofs.Common.{◌+◌, ◌-◌, length}
+use Rattle.std.proofs.Common.{◌+◌, ◌-◌, ◌≤◌, length}
 use Rattle.whole_laws.specs.Notes.{script_list}
 use Rattle.term_ring.specs.Sending.{Sends}
 use Rattle.mul_workers.proofs.sender.Sender.send.Given as goal
