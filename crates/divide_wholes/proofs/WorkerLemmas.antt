@@ -14,7 +14,7 @@ use Rattle.sdmp_laws.proofs.PolyLemmas.{total_minus}
 use Rattle.sdmp_laws.proofs.TermsLemmas.{total_nil, total_above, nothing_below, head_facts, tail_poly}
 use Rattle.sdmp_laws.proofs.DivisionLemmas.{AllBelow-append, length_lm}
 use Rattle.sdmp_laws.proofs.LongLemmas.{Over-times}
-use Rattle.sdmp_laws.proofs.NextTerm.{at_then_below, back_poly, next_term}
+use Rattle.sdmp_laws.proofs.NextTerm.{at_then_below, below_then_at, back_poly, next_term}
 use Rattle.sdmp_laws.proofs.ListLemmas.{Decreasing-every}
 use Rattle.divide_wholes.proofs.Candidate.{quotient_poly, rows_over, times_split, times_nothing}
 
@@ -47,10 +47,6 @@ first_below ord t l r x lx lr h = below_back ord (t ⋅ r) x l (length_times t r
   where
     swap : (t ⋅ l) ⋅ r ≡ (t ⋅ r) ⋅ l
     swap = times_assoc t l r ∙ ap (λ (v : List ℕ). t ⋅ v) (times_comm l r) ∙ sym (times_assoc t r l)
-
-below_then_at : (ord : Order) (x y z : List ℕ) → Below ord x y → AtOrAbove ord y z → Below ord x z
-below_then_at ord x y z b (inl e) = subst (λ (v : List ℕ). Below ord x v) e b
-below_then_at ord x y z b (inr k) = (order_facts ord).transitive x y z b k
 
 -- the vectors that stand at a frontier have as many exponents as the division has variables
 record FrontierVectors (d : Division) (front r x : List ℕ) : Type 0 where

@@ -10,6 +10,7 @@ use Rattle.sdmp_laws.specs.Poly.{Term, term_times, Over, AllBelow, Decreasing}
 use Rattle.sdmp_laws.specs.Division.{AtOrAbove, AllAtOrBelow}
 use Rattle.sdmp_laws.proofs.OrderLemmas.{Three, is_less, is_equal, is_greater, below_total, order_facts, length_times}
 use Rattle.sdmp_laws.proofs.CompareLemmas.{compare_less, compare_greater, compare_same}
+use Rattle.sdmp_laws.proofs.NextTerm.{below_then_at}
 use Rattle.std.proofs.Math.ListN.{get_or-map}
 use Rattle.chained_heap.specs.declared.node.Place.{Place}
 use Rattle.chained_heap.specs.declared.node.Place.TheVariants.{Out, In, Taken}
@@ -36,10 +37,6 @@ in_range places k a e = pick (ltb k (length places)) refl
 placed_under : {M : Type 0} (vector : M → List ℕ) (ord : Order) (x : List ℕ) (a : M) (read top : ℕ) (m : List ℕ) → IsPlaced vector ord (Some x) (In a) read top m → Below ord (vector a) x
 unfolding IsPlaced IsUnder
 placed_under vector ord x a read top m q = subst (λ (v : List ℕ). Below ord v x) (sym q.1) q.2
-
-below_then_at : (ord : Order) (u v x : List ℕ) → Below ord u v → AtOrAbove ord v x → Below ord u x
-below_then_at ord u v x b (inl e) = subst (λ (y : List ℕ). Below ord u y) e b
-below_then_at ord u v x b (inr c) = (order_facts ord).transitive u v x b c
 
 module _ {M : Type 0} (vector : M → List ℕ) (ord : Order) (x : Option (List ℕ)) (L rows : List Term) (reads : List ℕ) (places : List (Place M)) where
   pub ceiling_low : AreRows vector ord x L rows reads places → (k : ℕ) → k < length rows → ceiling L reads k ≤ length L
