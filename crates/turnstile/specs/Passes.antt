@@ -1,7 +1,8 @@
 -- What a clause says of a turnstile and of a pass.
-use Rattle.std.specs.Prelude.{◌≡◌, ℕ, true, false, [], ◌∷◌, Option, Some, None}
+use Rattle.std.specs.Prelude.{◌≡◌, ℕ, true, false, List, [], ◌∷◌, map, Option, Some, None}
 use Rattle.atomic_table.specs.Seated.{TableId}
 use Rattle.turnstile.specs.Own.{out_of}
+use Rattle.turnstile.specs.declared.members.Member.{Member}
 use Rattle.turnstile.specs.declared.turn.Pass.{Pass}
 use Rattle.turnstile.specs.declared.turn.Turnstile.{Turnstile}
 
@@ -52,6 +53,10 @@ module _ {T : Type 0} where
   abbrev pub busy_of : Option (Pass T) → ℕ
   busy_of None = 0
   busy_of (Some p) = busy p
+
+-- the members have the same workers, in the same order
+abbrev pub SameTeam : {W T : Type 0} → List (Member W T) → List (Member W T) → Type 0
+SameTeam old new = map (λ m. m.worker) new ≡ map (λ m. m.worker) old
 
 -- how often at least a worker that finds the turnstile held each time tries it before it gives up
 abbrev pub patience : ℕ

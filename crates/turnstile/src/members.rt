@@ -1,7 +1,7 @@
 //! Workers that each have a pass while they work around one value.
-ghost use Rattle.std.specs.Prelude.{◌≡◌, ◌≤◌, All, length, map, vec_len, vec_capacity};
+ghost use Rattle.std.specs.Prelude.{◌≡◌, ◌≤◌, All, length, vec_len, vec_capacity};
 ghost use Rattle.turnstile.specs.Turns.{Stays};
-ghost use Rattle.turnstile.specs.Passes.{made_with, passes_out, IsPassOf, IsOutside, HasPass};
+ghost use Rattle.turnstile.specs.Passes.{made_with, passes_out, IsPassOf, IsOutside, HasPass, SameTeam};
 
 use crate::named::Named;
 use crate::turn::{Pass, Turnstile};
@@ -18,7 +18,7 @@ pub fn hand_out<T: Named, W>(turnstile: &mut Turnstile<T>, members: &mut [Member
     requires { passes_out turnstile.old ≡ 0 }
     ensures made { made_with turnstile.new ≡ made_with turnstile.old }
     ensures out { passes_out turnstile.new ≡ length members.old }
-    ensures workers { map (λ m. m.worker) members.new ≡ map (λ m. m.worker) members.old }
+    ensures workers { SameTeam members.old members.new }
     ensures have { All (λ m. HasPass turnstile.new m.pass) members.new }
 {
     for member in 0..members.len() {
@@ -37,7 +37,7 @@ fn collect<T: Named, W>(
     requires have { All (λ m. HasPass turnstile.now m.pass) members.old }
     ensures count { vec_len passes.new ≡ length members.old }
     ensures each { All (λ p. IsPassOf turnstile.now p × IsOutside p) passes.new.items }
-    ensures workers { map (λ m. m.worker) members.new ≡ map (λ m. m.worker) members.old }
+    ensures workers { SameTeam members.old members.new }
 {
     for member in 0..members.len() {
         let Some(pass) = members[member].pass.take() else {
@@ -57,7 +57,7 @@ pub fn take_back<T: Named, W>(
     requires have { All (λ m. HasPass turnstile m.pass) members.old }
     requires room { (vec_len passes ≡ 0) × (length members.old ≤ vec_capacity passes) }
     ensures value { Stays T.name T.reached T.follows T.whole (made_with turnstile) result }
-    ensures workers { map (λ m. m.worker) members.new ≡ map (λ m. m.worker) members.old }
+    ensures workers { SameTeam members.old members.new }
 {
     let mut passes = passes;
     collect(&turnstile, members, &mut passes);
