@@ -81,11 +81,15 @@ module _ {M : Type 0} where
     pub chained : length chains ≡ length places
     pub wanted : (p : Place M) → want p ≡ true → is_free p ≡ 0
 
+  -- the first len nodes are a heap in the order of their monomials
+  abbrev pub IsOrdered : (M → M → Ordering) → List (Node M) → ℕ → Type 0
+  IsOrdered cmp nodes len = IsHeapWithin (node_lt cmp) (take len nodes) 0 len
+
   -- the invariant of the type
   pub record IsChainedHeap (cmp : M → M → Ordering) (nodes : List (Node M)) (len : ℕ) (next : List ℕ) (places : List (Place M)) (taken : ℕ) : Type 0 where
     pub within : len ≤ length nodes
     pub long : length nodes ≡ length places
-    pub ordered : IsHeapWithin (node_lt cmp) (take len nodes) 0 len
+    pub ordered : IsOrdered cmp nodes len
     pub shape : Shape cmp never (take len nodes) next places no_row taken
 
   -- x is the greatest monomial in the heap

@@ -3,19 +3,17 @@ use Rattle.std.specs.Prelude.{not}
 use Rattle.std.specs.List.{remove}
 use Rattle.std.specs.Ordering.{is_eq, is_lt}
 use Rattle.std.specs.List.Sorted.{IsPermutation}
-use Rattle.std.specs.Slice.Heapsort.{IsHeapWithin}
 use Rattle.std.proofs.lemmas.Cmp.{is_eq_index}
 use Rattle.std.proofs.lemmas.List.{get_or_default, nil_from_length}
 use Rattle.std.proofs.lemmas.List.Elements.{All-get_or}
 use Rattle.std.proofs.lemmas.List.Sorted.{IsPermutation-remove}
-use Rattle.chained_heap.specs.Order.{node_lt}
 use Rattle.chained_heap.specs.declared.node.Node.{Node}
-use Rattle.chained_heap.specs.Shape.{Shape, TakesChain, IsChainedHeap, IsTop, never, no_row, is_at, count_at, taken_at}
+use Rattle.chained_heap.specs.Shape.{Shape, IsOrdered, TakesChain, IsChainedHeap, IsTop, never, no_row, is_at, count_at, taken_at}
 use Rattle.chained_heap.proofs.Slices.{long_take, get_take, front}
 use Rattle.chained_heap.proofs.Orders.{eq_self}
 use Rattle.chained_heap.proofs.Takes.{retest, free_at, root_real}
 use Rattle.chained_heap.proofs.Tops.{top_is, root_most, none_at, none_left, all_done}
-use Rattle.chained_heap.proofs.Turns.{Turn, Turned, let_loose, turned, again, closes, turn_cost}
+use Rattle.chained_heap.proofs.Turns.{Turn, Turned, let_loose, turned, closes, turn_cost}
 use Rattle.chained_heap.proofs.heap.ChainedHeap.take_top.Given as given
 use Rattle.chained_heap.proofs.heap.ChainedHeap.take_top.Goals as goal
 use Rattle.chained_heap.proofs.heap.ChainedHeap.take_top.Goals.{After-index, After-deref_mut-in-loop-self, After-take_chain-self-inside}
@@ -49,7 +47,7 @@ first_top g c z =
 record Emptied (g : given.Over) (c : After-deref_mut-in-loop-self g) : Type 0 where
   turn : Turn g.M.Ord.cmp c.index.result.now.mono c.loop-self.self-inside.nodes.items (c.loop-self.self-inside.len - 1 + 1) c.loop-self.self-inside.next.items c.loop-self.self-inside.places.items c.loop-self.self-inside.taken c.self.inside.places.items
   perm : IsPermutation (take (c.loop-self.self-inside.len - 1 + 1) c.loop-self.self-inside.nodes.items) (c.index-in-loop-self.result.now ∷ take (c.loop-self.self-inside.len - 1) c.remove_root.new.nodes)
-  ordered : IsHeapWithin (node_lt g.M.Ord.cmp) (take (c.loop-self.self-inside.len - 1) c.remove_root.new.nodes) 0 (c.loop-self.self-inside.len - 1)
+  ordered : IsOrdered g.M.Ord.cmp c.remove_root.new.nodes (c.loop-self.self-inside.len - 1)
   long : length c.remove_root.new.nodes ≡ length c.loop-self.self-inside.nodes.items
   shape : Shape g.M.Ord.cmp (is_at g.M.Ord.cmp c.index.result.now.mono) (take (c.loop-self.self-inside.len - 1) c.remove_root.new.nodes) c.deref_mut-in-loop-self.result.now c.loop-self.self-inside.places.items c.index-in-loop-self.result.now.row c.loop-self.self-inside.taken
 
@@ -62,14 +60,14 @@ emptied g c =
     let up : h.len ≡ n + 1 = omega (arith, i.nonempty) in
     let t = subst (λ k. Turn g.M.Ord.cmp c.index.result.now.mono h.nodes.items k h.next.items h.places.items h.taken c.self.inside.places.items) up i.turn in
     let e = c.deref_mut.ensures.value in
-    let first : (d : Node _) → get_or c.deref_mut.result.now 0 d ≡ c.index-in-loop-self.result.now = λ d. (λ k. get_or (e k) 0 d) ∙ get_or_default h.nodes.items 0 d c.index-in-loop-self.result.now (omega (arith, i.nonempty, t.within)) ∙ sym c.index-in-loop-self.ensures in
+    let first : (d : Node _) → get_or c.deref_mut.result.now 0 d ≡ c.index-in-loop-self.result.now = λ d. (λ k. get_or (e k) 0 d) ∙ get_or_default h.nodes.items 0 d c.index-in-loop-self.result.now (omega (arith, i.nonempty, t.turned.within)) ∙ sym c.index-in-loop-self.ensures in
     let perm = subst (λ ys. IsPermutation (take (h.len - 1 + 1) ys) (c.index-in-loop-self.result.now ∷ take (h.len - 1) c.remove_root.new.nodes)) e (c.remove_root.ensures.permutation c.index-in-loop-self.result.now first) in
     let same : is_eq (g.M.Ord.cmp c.index-in-loop-self.result.now.mono c.index.result.now.mono) ≡ true = (λ k. is_eq (g.M.Ord.cmp (c.index-in-loop-self.ensures k).mono c.index.result.now.mono)) ∙ t.root c.index-in-loop-self.result.now in
     let loose = let_loose (g.met.M.Ord g.world.𝓛 g.world.𝓜 g.world.𝓡 ((λ s x. x), (λ x. x), (λ x. x), λ x. x)).total c.index.result.now.mono h.nodes.items c.remove_root.new.nodes (h.len - 1) h.next.items h.places.items h.taken c.self.inside.places.items c.index-in-loop-self.result.now same perm t in
     record {
       turn = t;
       perm = perm;
-      ordered = c.remove_root.ensures.ordered (subst (λ ys. IsHeapWithin (node_lt g.M.Ord.cmp) (take (h.len - 1 + 1) ys) 0 (h.len - 1 + 1)) (sym e) t.ordered);
+      ordered = c.remove_root.ensures.ordered (subst (λ ys. IsOrdered g.M.Ord.cmp ys (h.len - 1 + 1)) (sym e) t.turned.ordered);
       long = c.remove_root.auto.nodes ∙ ap length e;
       shape = subst (λ nx. Shape g.M.Ord.cmp (is_at g.M.Ord.cmp c.index.result.now.mono) (take (h.len - 1) c.remove_root.new.nodes) nx h.places.items c.index-in-loop-self.result.now.row h.taken) (sym c.deref_mut-in-loop-self.ensures.value) loose;
     }
@@ -92,14 +90,14 @@ took g c =
     let chain = c.take_chain-self-inside.ensures (is_at g.M.Ord.cmp c.index.result.now.mono) (take (h.len - 1) c.remove_root.new.nodes) refl f.shape in
     let done = turned (g.met.M.Ord g.world.𝓛 g.world.𝓜 g.world.𝓡 ((λ s x. x), (λ x. x), (λ x. x), λ x. x)).total c.index.result.now.mono h.nodes.items c.remove_root.new.nodes (h.len - 1) h.next.items c.take_chain-self-inside.new.next h.places.items c.take_chain-self-inside.new.places.items h.taken c.take_chain-self-inside.result c.self.inside.places.items c.index-in-loop-self.result.now f.perm f.long f.ordered t chain in
     let long : length c.take_chain-self-inside.new.next ≡ length h.next.items = c.take_chain-self-inside.auto.next ∙ ap length c.deref_mut-in-loop-self.ensures.value in
-    let real : c.index-in-loop-self.result.now.row ≢ no_row = root_real g.M.Ord.cmp (is_at g.M.Ord.cmp c.index.result.now.mono) (take (h.len - 1 + 1) h.nodes.items) (take (h.len - 1) c.remove_root.new.nodes) c.index-in-loop-self.result.now h.next.items h.places.items h.taken t.shape f.perm in
+    let real : c.index-in-loop-self.result.now.row ≢ no_row = root_real g.M.Ord.cmp (is_at g.M.Ord.cmp c.index.result.now.mono) (take (h.len - 1 + 1) h.nodes.items) (take (h.len - 1) c.remove_root.new.nodes) c.index-in-loop-self.result.now h.next.items h.places.items h.taken t.turned.shape f.perm in
     record {
       done = done;
       nodes = front h.nodes.len c.remove_root.new.nodes (drop (length c.remove_root.new.nodes) h.nodes.items) (omega (arith, h.nodes.ok.0, f.long));
       next = front h.next.len c.take_chain-self-inside.new.next (drop (length c.take_chain-self-inside.new.next) h.next.items) (omega (arith, h.next.ok.0, long));
       left = long_take (h.len - 1) c.remove_root.new.nodes done.within;
       cost = λ l b. turn_cost l (h.len - 1) (length c.self.inside.places.items) (count_at (is_at g.M.Ord.cmp c.index.result.now.mono) h.places.items) (count_at (is_at g.M.Ord.cmp c.index.result.now.mono) c.take_chain-self-inside.new.places.items) (count_at (is_at g.M.Ord.cmp c.index.result.now.mono) c.self.inside.places.items) c.args.steps.now.compares c.loop-self.steps.compares c.remove_root.new.steps.compares
-          (omega (arith, t.within, t.long, t.kept)) b c.remove_root.ensures.compares (i.counted l b) (chain.some (λ q. real (sym q)));
+          (omega (arith, t.turned.within, t.turned.long, t.turned.kept)) b c.remove_root.ensures.compares (i.counted l b) (chain.some (λ q. real (sym q)));
     }
 
 -- so the heap is whole again
@@ -117,14 +115,16 @@ loop-self-init g c =
     let z : 0 < c.self.inside.len = omega (arith, c.if-self-eq0.false) in
     record {
       turn = record {
-        within = i.within;
-        long = i.long;
-        kept = refl;
-        ordered = i.ordered;
-        shape = retest g.M.Ord.cmp never (take c.self.inside.len c.self.inside.nodes.items) c.self.inside.next.items c.self.inside.places.items c.self.inside.taken i.shape (is_at g.M.Ord.cmp c.index.result.now.mono) (free_at g.M.Ord.cmp c.index.result.now.mono);
-        below = first_most g (goal.at.loop-self-init g c).After-index z;
+        turned = record {
+          within = i.within;
+          long = i.long;
+          kept = refl;
+          ordered = i.ordered;
+          shape = retest g.M.Ord.cmp never (take c.self.inside.len c.self.inside.nodes.items) c.self.inside.next.items c.self.inside.places.items c.self.inside.taken i.shape (is_at g.M.Ord.cmp c.index.result.now.mono) (free_at g.M.Ord.cmp c.index.result.now.mono);
+          below = first_most g (goal.at.loop-self-init g c).After-index z;
+          may = λ r. inl refl;
+        };
         root = λ d. (λ k. is_eq (g.M.Ord.cmp ((get_or_default c.self.inside.nodes.items 0 d c.index.result.now (omega (arith, i.within)) ∙ sym c.index.ensures) k).mono c.index.result.now.mono)) ∙ eq_self (g.met.M.Ord g.world.𝓛 g.world.𝓜 g.world.𝓡 ((λ s x. x), (λ x. x), (λ x. x), λ x. x)).total c.index.result.now.mono;
-        may = λ r. inl refl;
       };
       nonempty = z;
       counted = λ b q. omega arith;
@@ -189,7 +189,7 @@ loop-self-preserved g c =
     let is1 : c.index-in-loop-self-2.result.now ≡ get_or c.remove_root.new.nodes 0 c.index-in-loop-self-2.result.now = subst (λ ns. c.index-in-loop-self-2.result.now ≡ get_or ns 0 c.index-in-loop-self-2.result.now) f.nodes c.index-in-loop-self-2.ensures in
     let eq : is_eq (g.M.Ord.cmp c.index-in-loop-self-2.result.now.mono c.index.result.now.mono) ≡ true = ap is_eq (monos.ordered _ c.index.result.now.mono ∙ sym c.higher.ensures.value) ∙ is_eq_index c.higher.result ∙ flop _ c.if-ne.ensures in
     let roots : (d : Node _) → is_eq (g.M.Ord.cmp (get_or c.remove_root.new.nodes 0 d).mono c.index.result.now.mono) ≡ true = λ d. (λ k. is_eq (g.M.Ord.cmp ((get_or_default c.remove_root.new.nodes 0 d c.index-in-loop-self-2.result.now (omega (arith, c.if-self-eq0-2.false, f.done.within)) ∙ sym is1) k).mono c.index.result.now.mono)) ∙ eq in
-    let turn = again (g.met.M.Ord g.world.𝓛 g.world.𝓜 g.world.𝓡 ((λ s x. x), (λ x. x), (λ x. x), λ x. x)).total c.index.result.now.mono c.remove_root.new.nodes (c.loop-self.self-inside.len - 1) c.take_chain-self-inside.new.next c.take_chain-self-inside.new.places.items c.take_chain-self-inside.result c.self.inside.places.items roots f.done in
+    let turn : Turn g.M.Ord.cmp c.index.result.now.mono c.remove_root.new.nodes (c.loop-self.self-inside.len - 1) c.take_chain-self-inside.new.next c.take_chain-self-inside.new.places.items c.take_chain-self-inside.result c.self.inside.places.items = record { turned = f.done; root = roots } in
     record {
       turn = subst (λ ns. Turn g.M.Ord.cmp c.index.result.now.mono ns (c.loop-self.self-inside.len - 1) (take h.next.len (c.take_chain-self-inside.new.next ++ drop (length c.take_chain-self-inside.new.next) h.next.items)) c.take_chain-self-inside.new.places.items c.take_chain-self-inside.result c.self.inside.places.items) (sym f.nodes)
           (subst (λ ns. Turn g.M.Ord.cmp c.index.result.now.mono c.remove_root.new.nodes (c.loop-self.self-inside.len - 1) ns c.take_chain-self-inside.new.places.items c.take_chain-self-inside.result c.self.inside.places.items) (sym f.next) turn);
