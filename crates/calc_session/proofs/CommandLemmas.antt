@@ -6,7 +6,7 @@ use Rattle.sdmp_laws.specs.Poly.{Term, norm, lm, terms, times, IsPoly}
 use Rattle.sdmp_laws.specs.Limits.{greatest_norm, IsDegreeOver, IsNormOver}
 use Rattle.sdmp_laws.specs.declared.Mode.{Mode}
 use Rattle.sdmp_laws.specs.declared.Mode.TheVariants.{Exact, Remainder}
-use Rattle.division_laws.specs.Outcome.{Outcome, OverZero, ByNoUnit, OverBound, OverTerms, HasQuotient, HasNoQuotient, HasRemainder, IsOutcome, outcome}
+use Rattle.division_laws.specs.Outcome.{Outcome, OverZero, ByNoUnit, OverBound, OverTerms, HasQuotient, HasNoQuotient, HasRemainder, IsOutcome, division, outcome}
 use Rattle.division_laws.proofs.OutcomeLemmas.{one_outcome}
 use Rattle.std.specs.Str.{bytes_eq}
 use Rattle.std.proofs.lemmas.List.Quantifiers.{position-Some}
@@ -21,7 +21,7 @@ use Rattle.calc_session.specs.Faults.{fault_line}
 use Rattle.calc_session.specs.Lines.{is_skipped}
 use Rattle.calc_session.specs.Body.{Form, Skip, Define, Show, Mul, Div, Rem, form_of, definition, definition_at, command, one, two, only_word, is_equals}
 use Rattle.calc_session.specs.Product.{is_degree_over, is_norm_over, product, IsProduct, IsRefused}
-use Rattle.calc_session.specs.Quotient.{division, IsUndivided}
+use Rattle.calc_session.specs.Quotient.{IsUndivided}
 use Rattle.calc_session.specs.Session.{Setting, Defined, define, known, ◌>>=◌, answer_of, answer_to, line_answer, reading_at, setting_in, in_line, at_column, text_line, product_in, division_in, outcome_lines, division_lines, body_answers}
 use Rattle.calc_session.specs.View.{Defines}
 use Rattle.calc_session.specs.declared.fault.LineFault.{LineFault}

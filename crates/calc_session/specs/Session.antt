@@ -6,7 +6,7 @@ use Rattle.sdmp_laws.specs.Poly.{Term}
 use Rattle.sdmp_laws.specs.Division.{Division}
 use Rattle.sdmp_laws.specs.declared.Mode.{Mode}
 use Rattle.sdmp_laws.specs.declared.Mode.TheVariants.{Exact, Remainder}
-use Rattle.division_laws.specs.Outcome.{Outcome, OverZero, ByNoUnit, OverBound, OverTerms, HasQuotient, HasNoQuotient, HasRemainder, outcome}
+use Rattle.division_laws.specs.Outcome.{Outcome, OverZero, ByNoUnit, OverBound, OverTerms, HasQuotient, HasNoQuotient, HasRemainder, division, outcome}
 use Rattle.text_laws.specs.Reading.{reading}
 use Rattle.text_laws.specs.Canonical.{text}
 use Rattle.text_laws.specs.declared.TextFault.{TextFault}
@@ -16,7 +16,6 @@ use Rattle.calc_session.specs.Lines.{lines, effective}
 use Rattle.calc_session.specs.Header.{vars_of, ring_of, characteristic_of}
 use Rattle.calc_session.specs.Body.{Form, Define, Show, Mul, Div, Rem, form_of}
 use Rattle.calc_session.specs.Product.{product}
-use Rattle.calc_session.specs.Quotient.{division}
 use Rattle.calc_session.specs.Faults.{fault_line}
 use Rattle.calc_session.specs.Answers.{Answers, before, done, refused}
 use Rattle.calc_session.specs.declared.fault.LineFault.{LineFault}

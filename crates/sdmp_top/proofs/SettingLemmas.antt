@@ -3,10 +3,10 @@ use Rattle.std.proofs.Common.{◌≡◌, ℕ, List, [], ◌∷◌, ◌++◌, sym
 use Rattle.sdmp_laws.specs.Order.{Order}
 use Rattle.sdmp_laws.specs.Poly.{Term, IsPoly}
 use Rattle.sdmp_laws.specs.declared.Mode.{Mode}
-use Rattle.division_laws.specs.Outcome.{Outcome, IsOutcome}
+use Rattle.division_laws.specs.Outcome.{Outcome, IsOutcome, division}
 use Rattle.text_laws.specs.Canonical.{text}
 use Rattle.calc_session.specs.Product.{IsProduct, IsRefused}
-use Rattle.calc_session.specs.Quotient.{division, IsUndivided}
+use Rattle.calc_session.specs.Quotient.{IsUndivided}
 use Rattle.calc_session.specs.Session.{Setting}
 use Rattle.calc_session.specs.View.{IsSettingOf}
 use Rattle.calc_session.specs.declared.fault.LineFault.{LineFault}

@@ -2,9 +2,9 @@
 ghost use Rattle.std.specs.Prelude.{◌≡◌, IfOk, IfErr, IfSome, MatchOption};
 ghost use Rattle.sdmp_laws.specs.Division.{Division as DivisionOf};
 ghost use Rattle.sdmp_laws.specs.declared.Mode.TheVariants.{Exact, Remainder};
-ghost use Rattle.division_laws.specs.Outcome.{IsOutcome, HasQuotient, HasNoQuotient, HasRemainder};
+ghost use Rattle.division_laws.specs.Outcome.{division, IsOutcome, HasQuotient, HasNoQuotient, HasRemainder};
 ghost use Rattle.divide_core.specs.Answer.{IsRefusal};
-ghost use Rattle.calc_session.specs.Quotient.{division, IsUndivided};
+ghost use Rattle.calc_session.specs.Quotient.{IsUndivided};
 
 use calc_session::LineFault;
 use canonical_terms::Poly;

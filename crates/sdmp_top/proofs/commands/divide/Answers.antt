@@ -1,8 +1,7 @@
 use Rattle.std.proofs.Common.{rules, ◌∙◌, sym}
 use Rattle.std.proofs.lemmas.Result.{on_ok_weaker}
 use Rattle.sdmp_laws.specs.declared.Mode.TheVariants.{Exact}
-use Rattle.division_laws.specs.Outcome.{IsOutcome, HasQuotient, HasNoQuotient}
-use Rattle.calc_session.specs.Quotient.{division}
+use Rattle.division_laws.specs.Outcome.{IsOutcome, HasQuotient, HasNoQuotient, division}
 use Rattle.calc_session.specs.View.{held}
 use Rattle.poly_text.proofs.Results.{passed_up}
 use Rattle.calc_session.proofs.CommandLemmas.{divided_err, div_ok, div_none}

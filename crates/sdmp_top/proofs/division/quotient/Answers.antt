@@ -1,6 +1,6 @@
 use Rattle.std.proofs.Common.{refl}
 use Rattle.sdmp_laws.specs.declared.Mode.TheVariants.{Exact}
-use Rattle.calc_session.specs.Quotient.{division}
+use Rattle.division_laws.specs.Outcome.{division}
 use Rattle.sdmp_top.proofs.DivisionLemmas.{not_remainder}
 use Rattle.sdmp_top.proofs.division.quotient.Goals as goal
 

@@ -1,6 +1,6 @@
 use Rattle.std.proofs.Common.{refl}
 use Rattle.sdmp_laws.specs.declared.Mode.TheVariants.{Remainder}
-use Rattle.calc_session.specs.Quotient.{division}
+use Rattle.division_laws.specs.Outcome.{division}
 use Rattle.sdmp_top.proofs.DivisionLemmas.{not_quotient, not_none}
 use Rattle.sdmp_top.proofs.division.remainder.Goals as goal
 
