@@ -1,6 +1,7 @@
 -- Lemmas on what sources give and sinks take.
 use Rattle.std.proofs.Common.{◌≡◌, ◌+◌, ◌<◌, ◌≤◌, ℕ, List, [], ◌++◌, length, take, drop, Option, Some, None, refl, sym, ap, subst, ◌∙◌, arith, append_assoc, append-nil, length-append}
 use Rattle.std.proofs.lemmas.List.{take-append-drop, nil_from_length}
+use Rattle.sdmp_top.specs.declared.outside.Sink as Sink
 use Rattle.sdmp_top.specs.Outside.{Gives, EndsAt, Appends, AppendsPart, HasGiven, Rose}
 
 -- ---- sources
@@ -50,6 +51,10 @@ appends_more None mid now xs ys h k = tt
 appends_more (Some held) mid now xs ys h k =
     let later : Appends (Some (held ++ xs)) now ys = subst (λ (m : Option (List ℕ)). Appends m now ys) h k in
     later ∙ ap Some (append_assoc held xs ys)
+
+-- no write has failed
+abbrev pub Steady : {K : Type 0} → Sink.Ghosts K → K → K → Type 0
+Steady k old now = k.faults now ≡ k.faults old
 
 -- some of the bytes have been appended, and the rest is left
 pub record Leaves (old now : Option (List ℕ)) (bytes rest : List ℕ) : Type 0 where

@@ -1,6 +1,7 @@
-use Rattle.std.proofs.Common.{◌≡◌, ◌+◌, ◌≤◌, length}
+use Rattle.std.proofs.Common.{◌+◌, ◌≤◌, length}
 use Rattle.calc_session.specs.Lines.{lines}
 use Rattle.calc_session.specs.View.{answers_of}
+use Rattle.sdmp_top.proofs.OutsideLemmas.{Steady}
 use Rattle.sdmp_top.proofs.AnswerLemmas.{Reached}
 use Rattle.sdmp_top.proofs.answering.answer_lines.Given as goal
 
@@ -8,7 +9,7 @@ abbrev pub invariant-loop-rest : goal.invariant-loop-rest
 invariant-loop-rest g l = record {
   reached : Reached (g.K.Sink.held l.initial.sink) (g.K.Sink.held l.sink) (answers_of l.initial.session l.first (lines l.body)) (answers_of l.session l.number (lines l.rest));
   numbers : l.number + length l.rest ≤ 18446744073709551615;
-  steady : g.K.Sink.faults l.sink ≡ g.K.Sink.faults l.initial.sink;
+  steady : Steady g.K.Sink l.initial.sink l.sink;
 }
 
 abbrev pub decreases-loop-rest : goal.decreases-loop-rest
