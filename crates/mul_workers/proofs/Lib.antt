@@ -4,5 +4,4 @@ pub mod Steps
 pub mod Shares
 pub mod Hiring
 pub mod Bounds
-pub mod Alone
 pub mod GivingUp

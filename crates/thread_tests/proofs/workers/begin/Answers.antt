@@ -6,8 +6,8 @@ use Rattle.canonical_terms.specs.View.{term_of}
 use Rattle.whole_laws.specs.Notes.{Product}
 use Rattle.mul_workers.specs.Products.{product_of}
 use Rattle.mul_workers.proofs.Hiring.{readers_are, readers_scripts, readers_fit}
-use Rattle.mul_workers.proofs.Alone.{alone_read}
-use Rattle.mul_workers.proofs.tests.begin.Goals as goal
+use Rattle.thread_tests.proofs.Alone.{alone_read}
+use Rattle.thread_tests.proofs.workers.begin.Goals as goal
 
 pub new-requires-clause-scripts : goal.new-requires-clause-scripts
 new-requires-clause-scripts g c κs within =
