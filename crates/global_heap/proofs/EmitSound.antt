@@ -56,7 +56,7 @@ module _ {M E : Type 0} (cmp : M → M → Ordering) (belongs : E → Type 0) wh
       pick false = f
   belongs_cleared x head.Ended f = tt
 
-  all_cleared : (x : M) (hs : List (HeadOf M E)) → All (HeadBelongs belongs) hs → All (HeadBelongs belongs) (map (missing_at cmp x) hs)
+  pub all_cleared : (x : M) (hs : List (HeadOf M E)) → All (HeadBelongs belongs) hs → All (HeadBelongs belongs) (map (missing_at cmp x) hs)
   all_cleared x hs a k d l =
       let inside : k < length hs = let e = length-map hs (missing_at cmp x) in omega arith in
       subst (HeadBelongs belongs) (sym (lists.get_or-map (missing_at cmp x) hs k d d inside)) (belongs_cleared x (get_or hs k d) (a k d inside))

@@ -10,6 +10,5 @@ pub mod Begun
 pub mod Taking
 pub mod Asking
 pub mod Shares
-pub mod Examples
 pub mod MomentExamples
 pub mod MomentLemmas

@@ -1,4 +1,4 @@
--- The product that the tests merge.
+-- The product of two linear polynomials.
 use Rattle.std.specs.Prelude.{ℤ, pos, negsuc, List, [], ◌∷◌}
 use Rattle.sdmp_laws.specs.Order.{Grlex}
 use Rattle.sdmp_laws.specs.Poly.{Term, terms}

@@ -51,11 +51,18 @@ IsStarved v w = slice_index_or v.tails w 0 ≡ length (taken_of v w)
 abbrev pub FoundEmpty : MergeView → MergeView → ℕ → Type 0
 FoundEmpty a b w = slice_index_or a.looks w 0 < slice_index_or b.looks w 0
 
+-- where the answer is Done the merge is done; where it needs a ring or room, this holds of it
+abbrev pub IsDoneOr : MergeView → (ℕ → Type 0) → Type 0 → Advance → Type 0
+IsDoneOr b needs full Done = IsMergeDone b.state
+IsDoneOr b needs full (NeedsRing w) = needs w
+IsDoneOr b needs full OutFull = full
+
 -- why the merge answers
 abbrev pub IsCause : MergeView → MergeView → Advance → Type 0
-IsCause a b Done = IsMergeDone b.state
-IsCause a b (NeedsRing w) = IsFirstWanting b.state w × IsStarved b w × FoundEmpty a b w
-IsCause a b OutFull = AllServed b.state × (head_terms b.state.heads ≢ []) × (b.spare ≡ 0)
+IsCause a b =
+    IsDoneOr b
+    (λ w. IsFirstWanting b.state w × IsStarved b w × FoundEmpty a b w)
+    (AllServed b.state × (head_terms b.state.heads ≢ []) × (b.spare ≡ 0))
 
 -- notes were taken and terms emitted, in this order
 pub record Grows (a b : MergeView) : Type 0 where

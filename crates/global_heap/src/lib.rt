@@ -12,6 +12,3 @@ pub use answer::Advance;
 pub use laws::{product_at_each_moment, product_while_nobody_holds};
 pub use merge::Merge;
 pub use receipt::{Advanced, MergeTally};
-
-#[cfg(test)]
-mod tests;

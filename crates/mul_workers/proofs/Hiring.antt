@@ -20,7 +20,7 @@ use Rattle.global_heap.specs.Names.{script_product, first_product, HasScripts, I
 use Rattle.global_heap.specs.Merges.{MergeView, IsSound}
 use Rattle.term_ring.specs.Sending.{SenderView}
 use Rattle.mul_workers.specs.Inside.{script_of_rows}
-use Rattle.mul_workers.specs.Rounds.{AreMembers, IsTeam}
+use Rattle.mul_workers.specs.Rounds.{AreMembers, AreRead, IsTeam}
 use Rattle.mul_workers.specs.Products.{product_of}
 use Rattle.mul_workers.proofs.Sending.{name_of_writer}
 
@@ -126,20 +126,9 @@ first_team v m W team start members = record {
 }
 
 -- ---- the product of a merge of these rings
--- these readers are those of the W rings of a product, in their order
-pub record AreRead (m : Product) (W : ℕ) (names readers : List RingName) : Type 0 where
-  pub same : readers ≡ names
-  pub scripts : HasScripts m names
-  pub count : length names ≡ W
-  pub some : 0 < W
-
--- the rings of a team and the merge's readers
-pub team_read : {X M E : Type 0} (m : Product) (W : ℕ) (rings : List (Ring X M E)) (readers : List (Reader X M E)) → length rings ≡ W → 0 < W → map reader_name readers ≡ map ring_name rings → HasScripts m (map ring_name rings) → AreRead m W (map ring_name rings) (map reader_name readers)
-team_read m W rings readers count some same scripts = record { same = same; scripts = scripts; count = length-map rings ring_name ∙ count; some = some }
-
-module _ {m : Product} {W : ℕ} {names readers : List RingName} (r : AreRead m W names readers) where
+module _ {m : Product} {W : ℕ} {names readers : List RingName} (r : AreRead m W names readers) (some : 0 < W) where
   names_some : 0 < length names
-  names_some = let n = r.count in let l = r.some in omega arith
+  names_some = let n = r.count in omega arith
 
   pub readers_are : first_product readers ≡ m
   readers_are = ap first_product r.same ∙ first_is m names r.scripts names_some

@@ -4,5 +4,5 @@ pub mod Steps
 pub mod Shares
 pub mod Hiring
 pub mod Bounds
-pub mod Alone
 pub mod GivingUp
+pub mod Turns

@@ -1,11 +1,10 @@
 -- A team of workers around a merge, and a round of it.
 use Rattle.std.specs.Prelude.{◌≡◌, ℕ, ◌<◌, ◌≤◌, ◌⊎◌, List, length, slice_index_or}
-use Rattle.whole_laws.specs.Notes.{NoEnd}
-use Rattle.whole_laws.specs.Wholes.{IsMergeDone}
+use Rattle.whole_laws.specs.Notes.{Product, NoEnd}
 use Rattle.term_ring.specs.Names.{RingName, notes_count}
-use Rattle.global_heap.specs.Merges.{MergeView, taken_of}
+use Rattle.global_heap.specs.Names.{HasScripts}
+use Rattle.global_heap.specs.Merges.{MergeView, IsDoneOr, taken_of}
 use Rattle.global_heap.specs.declared.answer.Advance.{Advance}
-use Rattle.global_heap.specs.declared.answer.Advance.TheVariants.{Done, NeedsRing, OutFull}
 use Rattle.term_ring.specs.Sending.{SenderView, IsSentWhole, IsRefused, Sends, HasMet}
 
 -- the sender has the number k, its ring is the k-th with these names, and has a place
@@ -19,6 +18,12 @@ pub record IsMember (names : List RingName) (k : ℕ) (s : SenderView) : Type 0 
 pub record AreMembers (names : List RingName) (team : List SenderView) : Type 0 where
   pub long : length team ≡ length names
   pub each : (k : ℕ) (d : SenderView) → k < length team → IsMember names k (slice_index_or team k d)
+
+-- the readers are those of the W rings of a product with these names, in their order
+pub record AreRead (m : Product) (W : ℕ) (names readers : List RingName) : Type 0 where
+  pub same : readers ≡ names
+  pub scripts : HasScripts m names
+  pub count : length names ≡ W
 
 -- each writer has seen all that the merge has taken of its ring
 pub record IsTeam (m : MergeView) (team : List SenderView) : Type 0 where
@@ -48,14 +53,17 @@ pub record AllMeet (m : MergeView) (a b : List SenderView) : Type 0 where
 abbrev pub HaveMet : MergeView → List SenderView → Type 0
 HaveMet m team = (k : ℕ) (d : SenderView) → k < length team → HasMet m.state.taken m.tails (slice_index_or team k d)
 
+-- more notes are taken
+abbrev pub TakesMore : MergeView → MergeView → Type 0
+TakesMore a b = notes_count a.state.taken < notes_count b.state.taken
+
 -- what is known where the merge answers after a meeting: it is done, or all that a worker with no end among it has sent is taken, or notes were taken
 abbrev pub IsSettledBy : MergeView → List SenderView → MergeView → Advance → Type 0
-IsSettledBy a team b Done = IsMergeDone b.state
-IsSettledBy a team b (NeedsRing w) = (w < b.state.workers) × NoEnd (taken_of b w) × ((d : SenderView) → (slice_index_or team w d).sent ≡ taken_of b w)
-IsSettledBy a team b OutFull = notes_count a.state.taken < notes_count b.state.taken
+IsSettledBy a team b =
+    IsDoneOr b
+    (λ w. (w < b.state.workers) × NoEnd (taken_of b w) × ((d : SenderView) → (slice_index_or team w d).sent ≡ taken_of b w))
+    (TakesMore a b)
 
 -- the merge is done, or more notes are taken
-abbrev pub IsRound : MergeView → MergeView → Advance → Type 0
-IsRound a b Done = IsMergeDone b.state
-IsRound a b (NeedsRing w) = notes_count a.state.taken < notes_count b.state.taken
-IsRound a b OutFull = notes_count a.state.taken < notes_count b.state.taken
+abbrev pub IsRound : (a b : MergeView) → Advance → Type 0
+IsRound a b = IsDoneOr b (λ w. TakesMore a b) (TakesMore a b)

@@ -17,6 +17,3 @@ pub use stop::Stop;
 pub use threaded::multiply;
 pub use turnstile::PATIENCE;
 pub use worker::MulWorker;
-
-#[cfg(test)]
-mod tests;

@@ -1,11 +1,10 @@
 //! The workers of a product, each with a ring of its own.
-ghost use Rattle.std.specs.Prelude.{◌≡◌, ◌<◌, [], map, All, vec_len, IfOk};
+ghost use Rattle.std.specs.Prelude.{◌≡◌, ◌<◌, [], map, All, IfOk};
 ghost use Rattle.sdmp_laws.specs.Limits.{HasRoom};
 ghost use Rattle.whole_laws.specs.Notes.{ProductScript};
 ghost use Rattle.term_ring.specs.Ends.{IsReaderOf, script_in, places_of, taken};
-ghost use Rattle.global_heap.specs.Names.{HasScripts};
 ghost use Rattle.term_ring.specs.Names.{ring_name, reader_name, IsReading};
-ghost use Rattle.mul_workers.specs.Rounds.{AreMembers};
+ghost use Rattle.mul_workers.specs.Rounds.{AreMembers, AreRead};
 ghost use Rattle.mul_workers.specs.Products.{product_of};
 
 use crate::part::{Part, Worker};
@@ -72,11 +71,9 @@ impl<'a, R: CoeffRing, M: Monomial> Team<'a, R, M> {
         requires modulus { f.now.modulus ≡ g.now.modulus }
         requires room { HasRoom M.LIM f.now.modulus f.now.list g.now.list }
         requires places { 0 < places }
-        ensures count { IfOk result (λ t. vec_len t.rings ≡ workers) }
-        ensures readers { IfOk result (λ t. map reader_name t.readers.items ≡ map ring_name t.rings.items) }
+        ensures read { IfOk result (λ t. AreRead (product_of M.order M.VARS f.now g.now) workers (map ring_name t.rings.items) (map reader_name t.readers.items)) }
         ensures reading { IfOk result (λ t. All IsReading t.readers.items) }
         ensures taken { IfOk result (λ t. All (λ r. taken r ≡ []) t.readers.items) }
-        ensures scripts { IfOk result (λ t. HasScripts (product_of M.order M.VARS f.now g.now) (map ring_name t.rings.items)) }
         ensures members { IfOk result (λ t. AreMembers (map ring_name t.rings.items) (map (λ w. w.worker.sender) t.workers.items)) }
     {
         let count = workers as usize;

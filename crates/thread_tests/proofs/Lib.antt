@@ -1,2 +1,5 @@
 mod Published
 mod Sent
+mod Room
+mod Alone
+mod Few

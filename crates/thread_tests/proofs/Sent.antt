@@ -4,23 +4,13 @@ use Rattle.sdmp_laws.specs.Order.{Order, Grlex, ◌⋅◌, zeros, degree, alike,
 use Rattle.sdmp_laws.specs.Poly.{Term as PlainTerm, IsPoly, Over, terms, times, term_times, row, every, part, put, keep, is_zero, term_plus}
 use Rattle.sdmp_laws.proofs.TermsLemmas.{terms_of_poly}
 use Rattle.sdmp_laws.proofs.Ints.{mul_one}
-use Rattle.canonical_terms.specs.View.{term_of}
-use Rattle.canonical_terms.specs.declared.term.TermOf.{TermOf}
-use Rattle.whole_laws.specs.Notes.{Script, ProductScript, script_list}
-use Rattle.term_ring.specs.declared.note.NoteOf.TheVariants.{Term, End}
-use Rattle.term_ring.specs.Carried.{Carries}
-use Rattle.term_ring.proofs.Carrying.{carries_whole}
-use Rattle.thread_tests.specs.Examples.{squares}
+use Rattle.whole_laws.specs.Notes.{ProductScript, script_list}
+use Rattle.global_heap.specs.Examples.{squares}
 
--- the first of two workers sends x^2 and -x of the product of x+1 and x-1
-first_rows : script_list (ProductScript squares 2 0) ≡ record { monomial = 2 ∷ []; coefficient = pos 1 } ∷ record { monomial = 1 ∷ []; coefficient = negsuc 0 } ∷ []
+-- the second of two workers sends x and -1 of the product of x+1 and x-1
+pub second_rows : script_list (ProductScript squares 2 1) ≡ record { monomial = 1 ∷ []; coefficient = pos 1 } ∷ record { monomial = 0 ∷ []; coefficient = negsuc 0 } ∷ []
 unfolding script_list part every times row term_times terms put keep is_zero term_plus alike is_below tie_below lex_below degree ◌⋅◌
-first_rows = refl
-
-module _ {M E : Type 0} (vector : M → List ℕ) (value : E → ℤ) (s : Script) (t u : TermOf M E) (is : s ≡ ProductScript squares 2 0) (t_is : term_of vector value t ≡ record { monomial = 2 ∷ []; coefficient = pos 1 })
-    (u_is : term_of vector value u ≡ record { monomial = 1 ∷ []; coefficient = negsuc 0 }) where
-  pub first_three : Carries vector value s (Term t ∷ Term u ∷ End ∷ [])
-  first_three = subst (λ z. Carries vector value z (Term t ∷ Term u ∷ End ∷ [])) (sym is) (carries_whole vector value squares 2 0 (t ∷ u ∷ []) (ap₂ (λ a b. a ∷ b ∷ []) t_is u_is ∙ sym first_rows))
+second_rows = refl
 
 -- ---- a product with 1
 none : (i : ℕ) → eqb (i % 1) 0 ≡ true

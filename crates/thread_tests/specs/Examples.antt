@@ -1,18 +1,13 @@
--- The polynomials, the product and the division of the tests.
+-- The polynomials and the division of the tests.
 use Rattle.std.specs.Prelude.{ℕ, ℤ, List, [], ◌∷◌, pos, negsuc}
 use Rattle.sdmp_laws.specs.Order.{Grlex}
 use Rattle.sdmp_laws.specs.Poly.{Term, terms}
 use Rattle.sdmp_laws.specs.Division.{Division}
 use Rattle.sdmp_laws.specs.declared.Mode.TheVariants.{Exact}
-use Rattle.whole_laws.specs.Notes.{Product}
 
 -- a x^k + b
 abbrev pub two_terms : ℤ → ℕ → ℤ → List Term
 two_terms a k b = terms Grlex 0 (record { monomial = k ∷ []; coefficient = a } ∷ record { monomial = 0 ∷ []; coefficient = b } ∷ [])
-
--- x + 1 times x - 1
-abbrev pub squares : Product
-squares = record { ord = Grlex; p = 0; n = 1; f = two_terms (pos 1) 1 (pos 1); g = two_terms (pos 1) 1 (negsuc 0) }
 
 -- x^2 - 1 by x - 1
 abbrev pub square_less_one : Division

@@ -2,7 +2,15 @@
 #![tactic(auto)]
 
 #[cfg(test)]
+mod gates;
+#[cfg(test)]
+mod heads;
+#[cfg(test)]
 mod lines;
+#[cfg(test)]
+mod merges;
+#[cfg(test)]
+mod products;
 #[cfg(test)]
 mod rings;
 #[cfg(test)]
@@ -11,3 +19,5 @@ mod rows;
 mod squares;
 #[cfg(test)]
 mod turnstiles;
+#[cfg(test)]
+mod workers;

@@ -32,8 +32,8 @@ fn whole_list<R: CoeffRing, M: Monomial>(
     Ok(out)
 }
 
-// pushes the notes from this one on until a push is refused, and gives the number of those that were sent
-fn push_from<R: CoeffRing, M: Monomial>(
+/// Pushes the notes from this one on until a push is refused, and gives the number of those that were sent.
+pub fn push_from<R: CoeffRing, M: Monomial>(
     writer: &mut Writer<R, M>,
     ring: &Ring<R, M>,
     list: &[Note<R, M>],

@@ -5,7 +5,8 @@ ghost use Rattle.packed_monomial.specs.Packing.{vector_of};
 ghost use Rattle.whole_laws.specs.Notes.{ProductScript};
 ghost use Rattle.term_ring.specs.Carried.{Fits, Carries};
 ghost use Rattle.term_ring.specs.Ends.{IsWriterOf, IsReaderOf, script_in, sent, taken};
-ghost use Rattle.thread_tests.specs.Examples.{two_terms, squares};
+ghost use Rattle.global_heap.specs.Examples.{squares};
+ghost use Rattle.thread_tests.specs.Examples.{two_terms};
 
 use crate::lines::Line;
 use canonical_terms::{Poly, TermOf};
@@ -62,6 +63,24 @@ pub fn first_notes(ring: &Ring<Integers, Line>) -> Result<[Note<Integers, Line>;
         NoteOf::Term(TermOf { mono: two, coef: 1 }),
         NoteOf::Term(TermOf {
             mono: one,
+            coef: -1,
+        }),
+        NoteOf::End,
+    ])
+}
+
+/// What the second worker sends: x, -1 and the end.
+pub fn second_notes(ring: &Ring<Integers, Line>) -> Result<[Note<Integers, Line>; 3], DegreeBound>
+    requires { script_in ring.now ≡ ProductScript squares 2 1 }
+    ensures fits { IfOk result (λ l. All (Fits (λ _ a. unsigned_abs a ≤ greatest_norm) (script_in ring.now)) l) }
+    ensures carries { IfOk result (λ l. Carries (λ m. vector_of 1 m.word) (λ a. a) (script_in ring.now) l) }
+{
+    let one = Line::pack(&[1])?;
+    let zero = Line::pack(&[0])?;
+    Ok([
+        NoteOf::Term(TermOf { mono: one, coef: 1 }),
+        NoteOf::Term(TermOf {
+            mono: zero,
             coef: -1,
         }),
         NoteOf::End,

@@ -8,8 +8,8 @@ loop-sender-preserved g c =
     let e = c.wait.ensures in
     record {
       pass = e.pass;
-      entries = let a = i.entries in let b = e.entries in omega arith;
-      busy = let a = i.busy in let b = e.busy in omega arith;
+      entries_rise = let a = i.entries_rise in let b = e.entries in omega arith;
+      busy_rise = let a = i.busy_rise in let b = e.busy in omega arith;
       sends = Sends-trans c.args.sender.now c.loop-sender.sender c.wait.new.sender i.sends (Sends-trans c.loop-sender.sender c.send.new.self c.wait.new.sender c.send.ensures.sends e.sends);
       looks = let a = i.looks in let b = c.send.ensures.looks in let d = e.looks in omega arith;
     }

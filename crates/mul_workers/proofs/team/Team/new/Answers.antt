@@ -38,13 +38,14 @@ loop-worker-preserved g c =
           record { script = h.script; places = subst (λ n. 0 < n) (sym h.places) c.requires.places; sender = h.worker };
     }
 
-pub returns-clause-scripts : goal.returns-clause-scripts
-returns-clause-scripts g c =
+pub returns-clause-read : goal.returns-clause-read
+returns-clause-read g c =
     let i = c.loop-worker.invariant in
     let m = product_of g.M.Monomial.order g.M.Monomial.VARS c.args.f.now c.args.g.now in
     let names = map ring_name c.loop-worker.rings.items in
     let team = map (λ w. w.worker.sender) c.loop-worker.team.items in
-    hired_scripts m c.args.workers names team (subst (λ n. AreHired m c.args.workers names team n) (let b = i.below in let t = c.loop-worker-test.false in omega arith) i.hired)
+    let h : AreHired m c.args.workers names team c.args.workers = subst (λ n. AreHired m c.args.workers names team n) (let b = i.below in let t = c.loop-worker-test.false in omega arith) i.hired in
+    record { same = i.names; scripts = hired_scripts m c.args.workers names team h; count = h.count }
 
 pub returns-clause-members : goal.returns-clause-members
 returns-clause-members g c =

@@ -2,8 +2,8 @@ use Rattle.std.proofs.Common.{sym, ap, ◌∙◌}
 use Rattle.term_ring.specs.Names.{ring_name}
 use Rattle.mul_workers.proofs.Sending.{name_of_writer}
 use Rattle.mul_workers.proofs.Hiring.{rows_script, rows_rest}
-use Rattle.mul_workers.proofs.Alone.{one_among}
-use Rattle.mul_workers.proofs.tests.hire_one.Goals as goal
+use Rattle.thread_tests.proofs.Alone.{one_among}
+use Rattle.thread_tests.proofs.workers.hire_one.Goals as goal
 
 pub new-worker-requires-clause-script : goal.new-worker-requires-clause-script
 new-worker-requires-clause-script g c κs within =

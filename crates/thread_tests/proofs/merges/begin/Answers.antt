@@ -1,8 +1,8 @@
 use Rattle.std.proofs.Common.{rules, ◌≡◌, [], ◌∷◌, map, ap, ◌∙◌}
 use Rattle.whole_laws.specs.Notes.{Product}
 use Rattle.term_ring.specs.Names.{reader_name}
-use Rattle.global_heap.proofs.Examples.{product_is, scripts, fits}
-use Rattle.global_heap.proofs.tests.begin.Goals as goal
+use Rattle.thread_tests.proofs.Room.{product_is, scripts, fits}
+use Rattle.thread_tests.proofs.merges.begin.Goals as goal
 
 pub new-requires-clause-scripts : goal.new-requires-clause-scripts
 new-requires-clause-scripts c κs =

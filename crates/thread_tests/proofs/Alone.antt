@@ -7,7 +7,8 @@ use Rattle.term_ring.specs.declared.ring.Reader.{Reader}
 use Rattle.term_ring.specs.Names.{RingName, ring_name, reader_name}
 use Rattle.global_heap.specs.Names.{HasScripts}
 use Rattle.term_ring.specs.Sending.{SenderView, Sends, IsAmong}
-use Rattle.mul_workers.proofs.Hiring.{AreRead, name_of_reader}
+use Rattle.mul_workers.specs.Rounds.{AreRead}
+use Rattle.mul_workers.proofs.Hiring.{name_of_reader}
 
 one_script : (m : Product) (a : RingName) → a.script ≡ ProductScript m 1 0 → HasScripts m (a ∷ [])
 one_script m a e zero d l = e
@@ -19,7 +20,7 @@ module _ {X M E : Type 0} (ring : Ring X M E) (r : Reader X M E) (rs : List (Rea
 
 -- the reader of a product's one ring
 pub alone_read : {X M E : Type 0} (m : Product) (ring : Ring X M E) (r : Reader X M E) (rs : List (Reader X M E)) → rs ≡ r ∷ [] → IsReaderOf ring r → script_in ring ≡ ProductScript m 1 0 → AreRead m 1 (ring_name ring ∷ []) (map reader_name rs)
-alone_read m ring r rs is of script = record { same = its_ring ring r rs is of; scripts = one_script m (ring_name ring) script; count = omega arith; some = omega arith }
+alone_read m ring r rs is of script = record { same = its_ring ring r rs is of; scripts = one_script m (ring_name ring) script; count = omega arith }
 
 pub one_among : (a : RingName) (s : SenderView) → s.worker ≡ 0 → s.ring ≡ a → IsAmong (a ∷ []) s
 one_among a s first its = record {

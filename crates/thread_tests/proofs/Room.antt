@@ -1,29 +1,14 @@
--- The product of the tests, x+1 times x-1, by two workers.
+-- The product of x+1 and x-1 has room, and which rings its two workers have.
 use Rattle.std.proofs.Common.{◌≡◌, ℕ, zero, suc, ◌+◌, ◌*◌, ◌<◌, ℤ, pos, negsuc, List, [], ◌∷◌, length, refl, sym, ap, ap₂, ◌∙◌, subst, arith}
-use Rattle.sdmp_laws.specs.Order.{Grlex, ◌⋅◌, degree, alike, is_below, tie_below, lex_below}
-use Rattle.sdmp_laws.specs.Poly.{Term as PlainTerm, Over, AllDegrees, norm, lm, terms, times, term_times, row, every, part, put, keep, is_zero, term_plus}
+use Rattle.sdmp_laws.specs.Order.{Grlex, degree, alike, is_below, tie_below, lex_below}
+use Rattle.sdmp_laws.specs.Poly.{Term as PlainTerm, Over, AllDegrees, norm, lm, terms, put, keep, is_zero, term_plus}
 use Rattle.sdmp_laws.specs.Limits.{greatest_norm}
 use Rattle.sdmp_laws.proofs.TermsLemmas.{terms_poly}
 use Rattle.packed_monomial.specs.Packing.{limit_of}
-use Rattle.canonical_terms.specs.View.{term_of}
-use Rattle.canonical_terms.specs.declared.term.TermOf.{TermOf}
-use Rattle.whole_laws.specs.Notes.{Script, ProductScript, script_list}
-use Rattle.term_ring.specs.declared.note.NoteOf.TheVariants.{Term, End}
-use Rattle.term_ring.specs.Carried.{Carries}
-use Rattle.term_ring.proofs.Carrying.{carries_whole}
+use Rattle.whole_laws.specs.Notes.{ProductScript}
 use Rattle.global_heap.specs.Examples.{squares}
 use Rattle.term_ring.specs.Names.{RingName}
 use Rattle.global_heap.specs.Names.{script_product, first_product, HasScripts, IsFit}
-
--- the second of the two workers sends x and -1
-second_rows : script_list (ProductScript squares 2 1) ≡ record { monomial = 1 ∷ []; coefficient = pos 1 } ∷ record { monomial = 0 ∷ []; coefficient = negsuc 0 } ∷ []
-unfolding script_list part every times row term_times terms put keep is_zero term_plus alike is_below tie_below lex_below degree ◌⋅◌
-second_rows = refl
-
-module _ {M E : Type 0} (vector : M → List ℕ) (value : E → ℤ) (s : Script) (t u : TermOf M E) (is : s ≡ ProductScript squares 2 1) (t_is : term_of vector value t ≡ record { monomial = 1 ∷ []; coefficient = pos 1 })
-    (u_is : term_of vector value u ≡ record { monomial = 0 ∷ []; coefficient = negsuc 0 }) where
-  pub second_three : Carries vector value s (Term t ∷ Term u ∷ End ∷ [])
-  second_three = subst (λ z. Carries vector value z (Term t ∷ Term u ∷ End ∷ [])) (sym is) (carries_whole vector value squares 2 1 (t ∷ u ∷ []) (ap₂ (λ a b. a ∷ b ∷ []) t_is u_is ∙ sym second_rows))
 
 -- ---- the product has room
 f_list : squares.f ≡ record { monomial = 1 ∷ []; coefficient = pos 1 } ∷ record { monomial = 0 ∷ []; coefficient = pos 1 } ∷ []

@@ -1,9 +1,0 @@
-use Rattle.std.proofs.Common.{◌≡◌, take}
-use Rattle.term_ring.specs.Ends.{IsWriterOf, sent}
-use Rattle.global_heap.proofs.tests.push_all.Given as goal
-
-abbrev pub invariant-loop-i : goal.invariant-loop-i
-invariant-loop-i g l = record {
-  of : IsWriterOf l.ring l.writer;
-  sent_is : sent l.writer ≡ take l.i l.list;
-}
