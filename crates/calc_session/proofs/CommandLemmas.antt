@@ -20,7 +20,7 @@ use Rattle.calc_session.specs.Answers.{before, refused}
 use Rattle.calc_session.specs.Faults.{fault_line}
 use Rattle.calc_session.specs.Lines.{is_skipped}
 use Rattle.calc_session.specs.Body.{Form, Skip, Define, Show, Mul, Div, Rem, form_of, definition, definition_at, command, one, two, only_word, is_equals}
-use Rattle.calc_session.specs.Product.{is_degree_over, is_norm_over, product, IsProduct, IsRefused}
+use Rattle.calc_session.specs.Product.{is_degree_over, is_norm_over, product, IsProduct, IsProductRefused}
 use Rattle.calc_session.specs.Quotient.{IsUndivided}
 use Rattle.calc_session.specs.Session.{Setting, Defined, define, known, ◌>>=◌, answer_of, answer_to, line_answer, reading_at, setting_in, in_line, at_column, text_line, product_in, division_in, outcome_lines, division_lines, body_answers}
 use Rattle.calc_session.specs.View.{Defines}
@@ -73,7 +73,7 @@ product_ok ord lim p f g h is =
     let b : is_norm_over p f g ≡ false = refuted (is_norm_over p f g) (λ e. is.room.norm_fits (norm_over p f g e)) in
     ap (λ x. chosen ord p f g x (is_norm_over p f g)) a ∙ ap (λ x. chosen ord p f g false x) b ∙ ap (λ l. Ok l) (sym is.list)
 
-pub product_err : (ord : Order) (lim p : ℕ) (f g : List Term) (fault : LineFault) → IsRefused lim p f g fault → fault ≢ NoMemory → product ord lim p f g ≡ Err fault
+pub product_err : (ord : Order) (lim p : ℕ) (f g : List Term) (fault : LineFault) → IsProductRefused lim p f g fault → fault ≢ NoMemory → product ord lim p f g ≡ Err fault
 unfolding product
 product_err ord lim p f g DegreeBound is other = ap (λ x. chosen ord p f g x (is_norm_over p f g)) (is_over lim f g is)
 product_err ord lim p f g CoefficientBound is other =
@@ -142,7 +142,7 @@ module _ (setting : Setting) (defined : Defined) where
       ∙ ap (λ p. Ok p) (sym written)
 
   pub mul_err : (a b : List ℕ) (f g : List Term) (p : ℕ) (fault : LineFault) → known (defined a) ≡ Ok f → known (defined b) ≡ Ok g → p ≡ setting.modulus
-      → IsRefused setting.limit p f g fault → fault ≢ NoMemory → answer_of setting defined (Mul a b) ≡ Err fault
+      → IsProductRefused setting.limit p f g fault → fault ≢ NoMemory → answer_of setting defined (Mul a b) ≡ Err fault
   unfolding product_in
   mul_err a b f g p fault ea eb ep is other =
       bind_ok (known (defined a)) f (multiplied_by b) ea ∙ bind_ok (known (defined b)) g (multiplied f) eb

@@ -28,8 +28,8 @@ pub record IsProduct (ord : Order) (lim p : ℕ) (f g h : List Term) : Type 0 wh
   pub list : h ≡ terms ord p (times f g)
 
 -- why there is no product
-abbrev pub IsRefused : ℕ → ℕ → List Term → List Term → LineFault → Type 0
-IsRefused lim p f g DegreeBound = IsDegreeOver lim f g
-IsRefused lim p f g CoefficientBound = (IsDegreeOver lim f g → ⊥) × IsNormOver p f g
-IsRefused lim p f g NoMemory = Unit {0}
-IsRefused lim p f g _ = ⊥
+abbrev pub IsProductRefused : ℕ → ℕ → List Term → List Term → LineFault → Type 0
+IsProductRefused lim p f g DegreeBound = IsDegreeOver lim f g
+IsProductRefused lim p f g CoefficientBound = (IsDegreeOver lim f g → ⊥) × IsNormOver p f g
+IsProductRefused lim p f g NoMemory = Unit {0}
+IsProductRefused lim p f g _ = ⊥

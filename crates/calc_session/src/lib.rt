@@ -1,11 +1,11 @@
 //! What a session is: how an input is cut into lines, what each line says, the names and what they stand for, the texts of answers and faults, and the session of the demo.
 #![tactic(auto)]
 
-mod answers;
 mod body;
 mod definitions;
 mod demo;
 mod effective;
+mod ending;
 mod fault;
 mod faults;
 mod header;
@@ -16,9 +16,9 @@ mod session;
 mod vars;
 mod writing;
 
-pub use answers::Ending;
 pub use body::{Line, parse_line};
 pub use demo::demo_input;
+pub use ending::Ending;
 pub use fault::LineFault;
 pub use faults::write_fault;
 pub use header::{Header, HeaderFault, parse_header};

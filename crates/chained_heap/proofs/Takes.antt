@@ -14,7 +14,7 @@ use Rattle.chained_heap.specs.declared.node.Place.{Place}
 use Rattle.chained_heap.specs.declared.node.Place.TheVariants.{Out, In, Taken}
 use Rattle.chained_heap.specs.Shape.{no_row, bit, occ, place_at, present, is_free, is_taken, is_at, Chain, chain_of, Holds, Shape, MayTake, TakesChain}
 use Rattle.chained_heap.proofs.Chains.{same_or_not, hit_same, hit_other, occ_head, all_both, some_of, place_same, place_other, chain_frame, chain_cons, chain_tail, chain_head}
-use Rattle.chained_heap.proofs.Moves.{each_frame, sums_frame}
+use Rattle.chained_heap.proofs.Insertions.{each_frame, sums_frame}
 
 module _ {M : Type 0} where
   present_most : (p : Place M) → present p ≤ 1

@@ -19,7 +19,7 @@ use Rattle.canonical_terms.specs.declared.term.TermOf.{TermOf}
 use Rattle.canonical_terms.specs.View.{sum_of}
 use Rattle.division_laws.specs.Outcome.{IsOutcome, HasQuotient, HasRemainder}
 use Rattle.divide_core.specs.Dividing.{Dividing, IsTermQuotient}
-use Rattle.divide_core.proofs.Turns.{not_passed, done_within, done_exact, done_remainder}
+use Rattle.divide_core.proofs.DividingSteps.{not_passed, done_within, done_exact, done_remainder}
 use Rattle.sdmp_laws.proofs.ListLemmas.{degrees_each}
 
 -- ---- what the parts keep

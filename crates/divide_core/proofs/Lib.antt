@@ -1,4 +1,4 @@
-pub mod Turns
+pub mod DividingSteps
 pub mod TakenOut
 pub mod Fitting
 pub mod Loop

@@ -16,7 +16,7 @@ use Rattle.division_laws.specs.Outcome.{IsOutcome}
 use Rattle.divide_core.specs.Answer.{IsBoundPassed, IsRefusal}
 use Rattle.divide_core.specs.declared.answer.DivideFault.{DivideFault}
 use Rattle.divide_core.specs.declared.answer.DivideFault.TheVariants.{ZeroDivisor, NotUnit, CoefficientBound, TermBound, NoMemory}
-use Rattle.divide_core.proofs.Turns.{later, later_is, passes_now, long_now, passes_none}
+use Rattle.divide_core.proofs.DividingSteps.{later, later_is, passes_now, long_now, passes_none}
 use Rattle.sdmp_laws.proofs.ListLemmas.{every_one, length-row}
 
 -- one worker has all rows

@@ -18,7 +18,7 @@ use Rattle.sdmp_laws.proofs.TermsLemmas.{total_nil, total_other, total_above, to
 use Rattle.sdmp_laws.proofs.NextTerm.{AllAtOrBelow-above}
 use Rattle.whole_laws.specs.Notes.{Note, TermNote, MarkNote, EndNote, QuotientScript, divisor_rows, script_list, terms_in, has, IsProductMonomial, AboveTop, TopFalls, TopIsProduct, IsMark, NoEnd, MarkMayFollow, EndMayFollow, MayFollow, CarryAfter, Carry}
 use Rattle.divide_wholes.specs.Wholes.{mark_after, latest_mark, IsBeyond}
-use Rattle.divide_wholes.specs.Workers.{MarkRises, MarkFollows, LatestMark, worker_rows, worker_script, sum_at, IsTop, WorkerStart, WorkerLearn, WorkerHand, WorkerSend, WorkerMark}
+use Rattle.divide_wholes.specs.Workers.{MarkRises, MarkFollows, LatestMark, worker_rows, worker_script, sum_at, IsUnreadTop, WorkerStart, WorkerLearn, WorkerHand, WorkerSend, WorkerMark}
 use Rattle.whole_laws.proofs.NotesLemmas.{terms_in-append, terms_in-mark, Carry-push, has-append_left, total_hasnt}
 use Rattle.divide_wholes.proofs.WorkerLemmas.{worker_next}
 use Rattle.sdmp_laws.proofs.PlaceLemmas.{length_prefix}
@@ -319,8 +319,8 @@ worker_send s t whole one =
       },
     )
 
-above_none : (p : ℕ) (ord : Order) (n : ℕ) (U : List Term) (top : Option (List ℕ)) (m : List ℕ) → IsTop ord U top → AboveTop ord top m → total U m ≡ pos 0
-unfolding IsTop AboveTop
+above_none : (p : ℕ) (ord : Order) (n : ℕ) (U : List Term) (top : Option (List ℕ)) (m : List ℕ) → IsUnreadTop ord U top → AboveTop ord top m → total U m ≡ pos 0
+unfolding IsUnreadTop AboveTop
 above_none p ord n U None m t a = ap (λ (L : List Term). total L m) t ∙ total_nil m
 above_none p ord n U (Some x) m t a = total_above ord m U (AllAtOrBelow-above ord x m U t.1 a)
 
@@ -333,8 +333,8 @@ product_at A B (t ∷ U) m h all = pick (λ k. product_at A B U m k (All-tail (�
     pick later (inl e) = subst (IsProductMonomial A B) (alike_same t.monomial m e) (All-head (λ (u : Term). IsProductMonomial A B u.monomial) t U all)
     pick later (inr k) = later k
 
-top_product : (ord : Order) (A B U : List Term) (top : Option (List ℕ)) → IsTop ord U top → All (λ (t : Term). IsProductMonomial A B t.monomial) U → TopIsProduct A B top
-unfolding IsTop TopIsProduct
+top_product : (ord : Order) (A B U : List Term) (top : Option (List ℕ)) → IsUnreadTop ord U top → All (λ (t : Term). IsProductMonomial A B t.monomial) U → TopIsProduct A B top
+unfolding IsUnreadTop TopIsProduct
 top_product ord A B U None t all = tt
 top_product ord A B U (Some m) t all = product_at A B U m t.0 all
 

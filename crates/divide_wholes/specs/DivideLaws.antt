@@ -73,7 +73,7 @@ WorkerFinal =
     IsBeyond d (divisor_rows d.g W w) front later x →
     coef d.p (times (quotient_list d) (divisor_rows d.g W w)) x ≡ coef d.p (times known (divisor_rows d.g W w)) x
 
--- the rule of a row's notes: a legal note keeps it, each beginning has it, and no quotient term that isn't yet published is above the front
+-- the rule of a published row's notes: a legal note keeps it, each beginning has it, and no quotient term that isn't yet published is above the front
 abbrev pub RowLaws : Type 0
 RowLaws =
     (d : Division) (start : ℕ) → IsAccepted d →

@@ -25,7 +25,7 @@ front_after d front [] = front
 front_after d front (RowTerm t ∷ notes) = front_after d (Some (t.monomial ⋅ lm d.g)) notes
 front_after d front (RowFront m ∷ notes) = front_after d (Some m) notes
 
--- the quotient terms known after the notes of a row that starts at `start`
+-- the quotient terms known after the notes of a published row that starts at `start`
 unfoldable pub known_after : Division → ℕ → List RowNote → List Term
 known_after d start notes = take start (quotient_list d) ++ row_terms notes
 
@@ -41,6 +41,6 @@ unfoldable pub RowCarryAfter : Division → ℕ → List RowNote → List RowNot
 RowCarryAfter d start before [] = Unit {0}
 RowCarryAfter d start before (x ∷ notes) = RowMayFollow d start before x × RowCarryAfter d start (before ++ x ∷ []) notes
 
--- the rule of the notes of a row
+-- the rule of the notes of a published row
 abbrev pub RowCarry : Division → ℕ → List RowNote → Type 0
 RowCarry d start notes = RowCarryAfter d start [] notes

@@ -65,7 +65,7 @@ unfoldable pub AllBelowFront : Division → List ℕ → List Term → Type 0
 AllBelowFront d m [] = Unit {0}
 AllBelowFront d m (t ∷ A) = Below d.ord (t.monomial ⋅ lm d.g) m × AllBelowFront d m A
 
--- x is beyond the frontier of a worker with these rows, so that no product of a later term with a row of it stands at x or above. Where the later terms times lm(g) are at the front or below, x*lm(g) has to be above the front times the first row; where they are below the front, at that product or above
+-- x is beyond the frontier of a worker with these rows, which are terms of the divisor, so that no product of a later term with one of them stands at x or above. Where the later terms times lm(g) are at the front or below, x*lm(g) has to be above the front times the first row; where they are below the front, at that product or above
 unfoldable pub IsBeyond : Division → List Term → List ℕ → List Term → List ℕ → Type 0
 IsBeyond d rows front later x =
     (AllUnderFront d (Some front) later × Below d.ord (front ⋅ lm rows) (x ⋅ lm d.g))
@@ -75,7 +75,7 @@ unfoldable pub RemainderFits : Mode → Division → List Term → Type 0
 RemainderFits Exact d r = r ≡ []
 RemainderFits Remainder d r = IsPoly d.ord d.p d.n r × NoneDivisible (lm d.g) r
 
--- the whole of a division, less what concerns the row
+-- the whole of a division, less what concerns the published row
 pub record DivideWhole (s : DivideState) : Type 0 where
   pub heads_count : length s.heads ≡ s.workers
   pub taken_count : length s.taken ≡ s.workers

@@ -27,7 +27,7 @@ LatestMark =
     (d : Division) (W w : ℕ) (notes : List Note) → Carry (QuotientScript d W w) notes →
     ((latest_mark notes).0 ≤ length (quotient_list d)) × TopIsProduct (take (latest_mark notes).0 (quotient_list d)) (divisor_rows d.g W w) (latest_mark notes).1
 
--- what the dividing worker w of W holds: the quotient terms that it knows, their products with its rows that it hasn't handed out, the term that it has yet to send if there is one, and the notes that it sent
+-- what the dividing worker w of W holds: the quotient terms that it knows, their products with its rows, which are terms of the divisor, that it hasn't handed out, the term that it has yet to send if there is one, and the notes that it sent
 pub record WorkerState : Type 0 where
   pub division : Division
   pub workers : ℕ
@@ -54,9 +54,9 @@ pub record WorkerWhole (s : WorkerState) : Type 0 where
   pub next : IsPrefix (terms_in s.sent ++ s.kept) (script_list (worker_script s))
 
 -- the greatest monomial of U, and None where there is none
-unfoldable pub IsTop : Order → List Term → Option (List ℕ) → Type 0
-IsTop ord U None = U ≡ []
-IsTop ord U (Some m) = (has m U ≡ true) × AllAtOrBelow ord m U
+unfoldable pub IsUnreadTop : Order → List Term → Option (List ℕ) → Type 0
+IsUnreadTop ord U None = U ≡ []
+IsUnreadTop ord U (Some m) = (has m U ≡ true) × AllAtOrBelow ord m U
 
 -- the term c at x, unless c is zero
 unfoldable pub sum_at : ℤ → List ℕ → List Term
@@ -90,6 +90,6 @@ WorkerSend =
 -- where it sends a mark of what it knows, which may be sent where it keeps no term and the mark rises above its latest one
 abbrev pub WorkerMark : Type 0
 WorkerMark =
-    (s : WorkerState) (top : Option (List ℕ)) → WorkerWhole s → s.kept ≡ [] → IsTop s.division.ord s.unread top →
+    (s : WorkerState) (top : Option (List ℕ)) → WorkerWhole s → s.kept ≡ [] → IsUnreadTop s.division.ord s.unread top →
     MarkRises s.division.ord (latest_mark s.sent) (length s.known) top →
     MayFollow (worker_script s) s.sent (MarkNote (length s.known) top) × WorkerWhole (record s { sent = s.sent ++ MarkNote (length s.known) top ∷ [] })

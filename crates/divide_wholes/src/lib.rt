@@ -1,4 +1,4 @@
-//! What the shared merge of a division and its workers hold, said of plain lists, and the laws by which each step keeps it: the published row, what is settled at a candidate, the notes that a worker may send, and how the row says what the merge found.
+//! What the shared merge of a division and its workers hold, said of plain lists, and the laws by which each step keeps it: the published row, what is settled at a candidate, the notes that a worker may send, and how the published row says what the merge found.
 //!
 //! A law is a function without argument or value: its contract is the law.
 #![tactic(auto)]
@@ -7,7 +7,7 @@ ghost use Rattle.divide_wholes.specs.DivideLaws.{RowLaws, DivideStart, DivideTak
 ghost use Rattle.divide_wholes.specs.Workers.{MarkFollows, LatestMark, WorkerStart, WorkerLearn, WorkerHand, WorkerSend, WorkerMark};
 ghost use Rattle.divide_wholes.specs.MergeRow.{RowStart, RowFound, RowFronted, RowKept, RowChanged};
 
-/// A row's notes keep their rule at each legal note, and no later quotient term is above the front.
+/// The notes of a published row keep their rule at each legal note, and no later quotient term is above the front.
 pub fn row_laws()
     ensures { RowLaws }
 {}
@@ -122,27 +122,27 @@ pub fn worker_mark()
     ensures { WorkerMark }
 {}
 
-/// The empty row is that of a new merge of a division.
+/// The empty published row is that of a new merge of a division.
 pub fn row_start()
     ensures { RowStart }
 {}
 
-/// A quotient term that is found may be published, and then the row says it.
+/// A quotient term that is found may be published, and then the published row says it.
 pub fn row_found()
     ensures { RowFound }
 {}
 
-/// A front at a bound may be published where it is below the present front, and then the row says it.
+/// A front at a bound may be published where it is below the present front, and then the published row says it.
 pub fn row_front()
     ensures { RowFronted }
 {}
 
-/// The other steps of a merge of a division leave the row as it is.
+/// The other steps of a merge of a division leave the published row as it is.
 pub fn row_kept()
     ensures { RowKept }
 {}
 
-/// A merge of a division stays whole when it goes on with a new row.
+/// A merge of a division stays whole when it goes on with a new published row.
 pub fn row_change()
     ensures { RowChanged }
 {}

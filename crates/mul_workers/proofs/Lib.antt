@@ -5,4 +5,4 @@ pub mod Shares
 pub mod Hiring
 pub mod Bounds
 pub mod GivingUp
-pub mod Turns
+pub mod BetweenSends

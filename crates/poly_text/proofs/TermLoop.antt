@@ -15,7 +15,7 @@ use Rattle.text_laws.specs.declared.ByteClass.{ByteClass}
 use Rattle.text_laws.specs.declared.ByteClass.TheVariants.{Digit, Letter}
 use Rattle.text_laws.specs.declared.TextFault.{TextFault}
 use Rattle.text_laws.specs.declared.TextFault.TheVariants as faults
-use Rattle.text_laws.proofs.Fronts.{Stop, blanks_are}
+use Rattle.text_laws.proofs.Fronts.{StopsAt, blanks_are}
 use Rattle.poly_text.specs.Tokens.{after, sign_front, cap}
 use Rattle.poly_text.specs.ReadsTerms.{weight, minus_front, ReadsTerm, ReadsTree, IsWithin, pushed, reduced}
 use Rattle.poly_text.specs.declared.factors.UnknownName.{UnknownName}
@@ -61,10 +61,10 @@ or_none : (o : Option ℕ) → or_else o None ≡ o
 or_none (Some k) = refl
 or_none None = refl
 
-product_stop : (p : ByteClass → Bool) → p Digit ≡ false → p Letter ≡ false → (t : Product) (x : List ℕ) → IsProduct t → Stop p (spell_product t ++ x)
+product_stop : (p : ByteClass → Bool) → p Digit ≡ false → p Letter ≡ false → (t : Product) (x : List ℕ) → IsProduct t → StopsAt p (spell_product t ++ x)
 product_stop p d l t x i = by t.head t.factors i.head
   where
-    by : (h : Head) (fs : List Factor) → IsHead h → Stop p ((spell_head h ++ spell_factors fs) ++ x)
+    by : (h : Head) (fs : List Factor) → IsHead h → StopsAt p ((spell_head h ++ spell_factors fs) ++ x)
     by (Numeral w) fs g = ap p g.first ∙ d
     by (Symbol q) fs g = ap p g.name.first ∙ l
 
@@ -207,11 +207,11 @@ next_signed names bytes p lim all i at negative sum deg coef P l h bound a m = b
         }
 
 -- ---- the first term
-sign_stop : (m : Option Mark) (t : Product) (x : List ℕ) → IsFirstSign m → IsProduct t → Stop is_blank (spell_sign m ++ (spell_product t ++ x))
+sign_stop : (m : Option Mark) (t : Product) (x : List ℕ) → IsFirstSign m → IsProduct t → StopsAt is_blank (spell_sign m ++ (spell_product t ++ x))
 sign_stop None t x i j = product_stop is_blank refl refl t x j
 sign_stop (Some m) t x i j = ap is_blank i.byte
 
-not_sign : (x : List ℕ) → Stop is_sign x → (sign_front x ≡ x) × (minus_front x ≡ false)
+not_sign : (x : List ℕ) → StopsAt is_sign x → (sign_front x ≡ x) × (minus_front x ≡ false)
 not_sign [] h = (refl, refl)
 not_sign (b ∷ bs) h = (ap (λ c. cond c (after is_blank bs) (b ∷ bs)) h, ap (λ c. cond c (eqb b 45) false) h)
 

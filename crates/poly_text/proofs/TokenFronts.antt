@@ -10,7 +10,7 @@ use Rattle.text_laws.specs.Summands.{number_of, exponent_of}
 use Rattle.text_laws.specs.Reading.{is_blank, is_digit, is_word, is_caret}
 use Rattle.text_laws.specs.declared.ByteClass.{ByteClass}
 use Rattle.text_laws.specs.declared.ByteClass.TheVariants.{Digit}
-use Rattle.text_laws.proofs.Fronts.{Stop, blanks_are, digits_are, words_are, ends_stop, blanks_stop, raised_stop}
+use Rattle.text_laws.proofs.Fronts.{StopsAt, blanks_are, digits_are, words_are, ends_stop, blanks_stop, raised_stop}
 use Rattle.poly_text.specs.Tokens.{after, cap, capped_front, raised_front, power_front}
 use Rattle.poly_text.specs.Exponents.{top}
 
@@ -21,7 +21,7 @@ pub record IsAmongDigits (bytes : List ℕ) (start i number n : ℕ) : Type 0 wh
   pub same : after is_digit (drop i bytes) ≡ after is_digit (drop start bytes)
   pub value : capped_front n (drop i bytes) ≡ capped_front number (drop start bytes)
 
-pub after_front : (p : ByteClass → Bool) (ds rest : List ℕ) → Each (λ c. p c ≡ true) ds → Stop p rest → after p (ds ++ rest) ≡ rest
+pub after_front : (p : ByteClass → Bool) (ds rest : List ℕ) → Each (λ c. p c ≡ true) ds → StopsAt p rest → after p (ds ++ rest) ≡ rest
 after_front p [] [] h g = refl
 after_front p [] (b ∷ rest) h g = ap (λ c. cond c (after p rest) (b ∷ rest)) g
 after_front p (d ∷ ds) rest h g = ap (λ c. cond c (after p (ds ++ rest)) (d ∷ (ds ++ rest))) h.0 ∙ after_front p ds rest h.1 g
@@ -40,7 +40,7 @@ digit_is c h = digit_value_digit c (digit_low c h, digit_high c h)
 capped_step : (v n d k : ℕ) → n ≡ min v cap → k + 48 ≡ d → k ≤ 9 → min (min (n * 10) cap + (d - 48)) cap ≡ min (v * 10 + k) cap
 capped_step v n d k e f g = omega (arith, e, f, g)
 
-capped_is : (ds rest : List ℕ) (v n : ℕ) → AreDigits ds → Stop is_digit rest → n ≡ min v cap → capped_front n (ds ++ rest) ≡ min (digits_value_after 10 v ds) cap
+capped_is : (ds rest : List ℕ) (v n : ℕ) → AreDigits ds → StopsAt is_digit rest → n ≡ min v cap → capped_front n (ds ++ rest) ≡ min (digits_value_after 10 v ds) cap
 capped_is [] [] v n h g e = e
 capped_is [] (b ∷ rest) v n h g e = ap (λ c. cond c (capped_front (min (min (n * 10) cap + (b - 48)) cap) rest) n) g ∙ e
 capped_is (d ∷ ds) rest v n h g e =
@@ -50,7 +50,7 @@ capped_is (d ∷ ds) rest v n h g e =
 -- behind a number's digits and blanks
 pub number_front : (w : Word) (rest : List ℕ) → IsNumber w → EndsPower rest → (capped_front 0 (spell_word w ++ rest) ≡ min (number_of w) cap) × (after is_blank (after is_digit (spell_word w ++ rest)) ≡ rest)
 number_front w rest h g =
-    let s : Stop is_digit (w.blanks ++ rest) = blanks_stop is_digit refl w.blanks rest h.blanks (ends_stop is_digit refl refl rest g) in
+    let s : StopsAt is_digit (w.blanks ++ rest) = blanks_stop is_digit refl w.blanks rest h.blanks (ends_stop is_digit refl refl rest g) in
     let ds : AreDigits (w.first ∷ w.more) = (h.first, h.more) in
     let r : spell_word w ++ rest ≡ (w.first ∷ w.more) ++ (w.blanks ++ rest) = append_assoc (w.first ∷ w.more) w.blanks rest in (
       ap (capped_front 0) r ∙ capped_is (w.first ∷ w.more) (w.blanks ++ rest) 0 0 ds s (omega arith),
@@ -59,20 +59,20 @@ number_front w rest h g =
     )
 
 -- behind a name and its blanks
-name_front : (w : Word) (rest : List ℕ) → IsName w → Stop is_word rest → Stop is_blank rest → after is_blank (after is_word (spell_word w ++ rest)) ≡ rest
+name_front : (w : Word) (rest : List ℕ) → IsName w → StopsAt is_word rest → StopsAt is_blank rest → after is_blank (after is_word (spell_word w ++ rest)) ≡ rest
 name_front w rest h g k =
-    let s : Stop is_word (w.blanks ++ rest) = blanks_stop is_word refl w.blanks rest h.blanks g in
+    let s : StopsAt is_word (w.blanks ++ rest) = blanks_stop is_word refl w.blanks rest h.blanks g in
     let ls : AreLettersOrDigits (w.first ∷ w.more) = (inl h.first, h.more) in
     let r : spell_word w ++ rest ≡ (w.first ∷ w.more) ++ (w.blanks ++ rest) = append_assoc (w.first ∷ w.more) w.blanks rest in
     ap (λ l. after is_blank (after is_word l)) r ∙ ap (after is_blank) (after_front is_word (w.first ∷ w.more) (w.blanks ++ rest) (words_are (w.first ∷ w.more) ls) s)
     ∙ after_front is_blank w.blanks rest (blanks_are w.blanks h.blanks) k
 
-not_caret : (rest : List ℕ) → EndsPower rest → Stop is_caret rest
+not_caret : (rest : List ℕ) → EndsPower rest → StopsAt is_caret rest
 not_caret [] h = tt
 not_caret (b ∷ rest) (inl e) = ap is_caret e
 not_caret (b ∷ rest) (inr e) = ap is_caret e
 
-one_left : (rest : List ℕ) → Stop is_caret rest → ((raised_front rest).0 ≡ 1) × ((raised_front rest).1 ≡ rest)
+one_left : (rest : List ℕ) → StopsAt is_caret rest → ((raised_front rest).0 ≡ 1) × ((raised_front rest).1 ≡ rest)
 one_left [] h = (refl, refl)
 one_left (b ∷ rest) h =
     let P : Bool → ℕ × List ℕ = λ c. cond c (capped_front 0 (after is_blank rest), after is_blank (after is_digit (after is_blank rest))) (1, b ∷ rest) in
@@ -101,7 +101,7 @@ power_is p rest h g =
 pub name_is : (p : Power) (rest : List ℕ) → IsPower p → EndsPower rest → spell_power p ++ rest ≡ (p.name.first ∷ p.name.more) ++ after is_word (spell_power p ++ rest)
 name_is p rest h g =
     let tail = spell_raised p.raised ++ rest in
-    let s : Stop is_word (p.name.blanks ++ tail) = blanks_stop is_word refl p.name.blanks tail h.name.blanks (raised_stop is_word refl refl refl p.raised rest h.raised g) in
+    let s : StopsAt is_word (p.name.blanks ++ tail) = blanks_stop is_word refl p.name.blanks tail h.name.blanks (raised_stop is_word refl refl refl p.raised rest h.raised g) in
     let ls : AreLettersOrDigits (p.name.first ∷ p.name.more) = (inl h.name.first, h.name.more) in
     let r : spell_power p ++ rest ≡ (p.name.first ∷ p.name.more) ++ (p.name.blanks ++ tail) =
     append_assoc (spell_word p.name) (spell_raised p.raised) rest ∙ append_assoc (p.name.first ∷ p.name.more) p.name.blanks tail in

@@ -6,9 +6,9 @@ pub mod Every
 pub mod PartLemmas
 pub mod Products
 pub mod Places
-pub mod Moves
+pub mod RowSteps
 pub mod RowLists
 pub mod Popped
 pub mod ProductSums
-pub mod Keeps
+pub mod LearnedRows
 pub mod ProductTerms

@@ -19,7 +19,7 @@ use Rattle.row_merge.specs.Learned.{IsPlaced, IsTakenAt, AreRows, ceiling, produ
 use Rattle.row_merge.specs.Part.{row_count, IsPart}
 use Rattle.row_merge.proofs.Falls.{length-strided, falling_strided, norm-strided}
 use Rattle.row_merge.proofs.Places.{ceiling_low}
-use Rattle.row_merge.proofs.Moves.{rows_start}
+use Rattle.row_merge.proofs.RowSteps.{rows_start}
 use Rattle.row_merge.proofs.Counts.{none_present}
 use Rattle.row_merge.proofs.Sums.{within}
 use Rattle.sdmp_laws.proofs.ListLemmas.{length-times}

@@ -8,7 +8,7 @@ use Rattle.chained_heap.specs.declared.node.Place.TheVariants.{Out, In, Taken}
 use Rattle.chained_heap.specs.Shape.{place_at}
 use Rattle.row_merge.specs.Learned.{product_at, ceiling, IsPlaced, AreRows, IsMoved, IsPopped, HasPopped}
 use Rattle.row_merge.proofs.Places.{ceiling_low}
-use Rattle.row_merge.proofs.Moves.{rows_step, taken_facts}
+use Rattle.row_merge.proofs.RowSteps.{rows_step, taken_facts}
 
 -- what a row is whose read is at its ceiling
 pub waits_out : {M : Type 0} (vector : M → List ℕ) (ord : Order) (x : Option (List ℕ)) (p : Place M) (r top : ℕ) (m : List ℕ) → r ≡ top → IsPlaced vector ord x p r top m → p ≡ Out

@@ -21,7 +21,7 @@ use Rattle.chained_heap.specs.Shape.{place_at}
 use Rattle.row_merge.specs.Learned.{unread, no_term, product_at, ceiling, IsPlaced, AreRows, TakesOut}
 use Rattle.row_merge.proofs.Products.{read_one}
 use Rattle.row_merge.proofs.Places.{ceiling_low}
-use Rattle.row_merge.proofs.Moves.{taken_facts}
+use Rattle.row_merge.proofs.RowSteps.{taken_facts}
 
 -- the products taken so far, their sum, and what is left
 pub record Summing (ord : Order) (p : ℕ) (x : List ℕ) (before left : List Term) (sum : ℤ) : Type 0 where

@@ -10,9 +10,9 @@ use Rattle.calc_session.specs.Session.{Monomials, Setting, Defined, body_answers
 use Rattle.calc_session.specs.View.{Body, answers_of, held}
 use Rattle.sdmp_top.specs.declared.answering.Next.{Next}
 use Rattle.sdmp_top.specs.declared.answering.Next.TheVariants as next
-use Rattle.calc_session.specs.declared.answers.Ending.{Ending}
-use Rattle.sdmp_top.specs.declared.stop.Stop.{Stop}
-use Rattle.sdmp_top.specs.declared.stop.Stop.TheVariants as stop
+use Rattle.calc_session.specs.declared.ending.Ending.{Ending}
+use Rattle.sdmp_top.specs.declared.answering_fault.AnsweringFault.{AnsweringFault}
+use Rattle.sdmp_top.specs.declared.answering_fault.AnsweringFault.TheVariants as stop
 use Rattle.sdmp_top.specs.Outside.{Appends, AppendsPart, Rose}
 use Rattle.sdmp_top.specs.Written.{AppendsPieces, IsAnswering}
 use Rattle.sdmp_top.proofs.OutsideLemmas.{appends_none, appends_more}
@@ -172,7 +172,7 @@ asked_for monomials session ord names lim p q number lines e o l m =
     ap (λ (s : Body). answers_of s number lines) e
     ∙ (λ i. body_answers (setting_in (o i) names (l i) (m i)) undefined number lines)
 
-pub same_answering : (a b : Answers) (old now : Option (List ℕ)) (before after : ℕ) (at_last : Type 0) (result : Result Ending Stop)
+pub same_answering : (a b : Answers) (old now : Option (List ℕ)) (before after : ℕ) (at_last : Type 0) (result : Result Ending AnsweringFault)
     → a ≡ b → IsAnswering a old now before after at_last result → IsAnswering b old now before after at_last result
 same_answering a b old now before after at_last result e h = subst (λ (told : Answers). IsAnswering told old now before after at_last result) e h
 

@@ -5,7 +5,7 @@ use Rattle.sdmp_laws.specs.Order.{Order}
 use Rattle.sdmp_laws.specs.Poly.{Term, Over, norm}
 use Rattle.sdmp_laws.specs.Limits.{IsDegreeOver, IsNormOver}
 use Rattle.row_merge.proofs.ProductTerms.{room_swapped, product_swapped}
-use Rattle.calc_session.specs.Product.{IsProduct, IsRefused}
+use Rattle.calc_session.specs.Product.{IsProduct, IsProductRefused}
 use Rattle.calc_session.specs.declared.fault.LineFault.{LineFault}
 use Rattle.calc_session.specs.declared.fault.LineFault.TheVariants.{DegreeBound, CoefficientBound, NoMemory}
 
@@ -21,7 +21,7 @@ degree_swaps lim f g o = record { left = o.right; right = o.left; over = omega (
 norm_swaps : (p q : ℕ) (f g : List Term) → p ≡ q → IsNormOver q g f → IsNormOver p f g
 norm_swaps p q f g e o = record { integers = e ∙ o.integers; over = omega (arith, o.over, mul_comm (norm f) (norm g)) }
 
-pub refused_swaps : (lim p q : ℕ) (f g : List Term) (fault : LineFault) → p ≡ q → IsRefused lim q g f fault → IsRefused lim p f g fault
+pub refused_swaps : (lim p q : ℕ) (f g : List Term) (fault : LineFault) → p ≡ q → IsProductRefused lim q g f fault → IsProductRefused lim p f g fault
 refused_swaps lim p q f g DegreeBound e refused = degree_swaps lim g f refused
 refused_swaps lim p q f g CoefficientBound e refused = (λ o. refused.0 (degree_swaps lim f g o), norm_swaps p q f g e refused.1)
 refused_swaps lim p q f g NoMemory e refused = tt

@@ -5,7 +5,7 @@ use Rattle.sdmp_laws.specs.Poly.{Term, IsPoly}
 use Rattle.sdmp_laws.specs.declared.Mode.{Mode}
 use Rattle.division_laws.specs.Outcome.{Outcome, IsOutcome, division}
 use Rattle.text_laws.specs.Canonical.{text}
-use Rattle.calc_session.specs.Product.{IsProduct, IsRefused}
+use Rattle.calc_session.specs.Product.{IsProduct, IsProductRefused}
 use Rattle.calc_session.specs.Quotient.{IsUndivided}
 use Rattle.calc_session.specs.Session.{Setting}
 use Rattle.calc_session.specs.View.{IsSettingOf}
@@ -17,8 +17,8 @@ module _ (ord : Order) (lim n : ℕ) (setting : Setting) (is : IsSettingOf ord l
   product_there p f g h product =
       subst (λ (l : ℕ). IsProduct setting.order l p f g h) (sym is.limit) (subst (λ (o : Order). IsProduct o lim p f g h) (sym is.order) product)
 
-  pub refused_there : (p : ℕ) (f g : List Term) (fault : LineFault) → IsRefused lim p f g fault → IsRefused setting.limit p f g fault
-  refused_there p f g fault refused = subst (λ (l : ℕ). IsRefused l p f g fault) (sym is.limit) refused
+  pub refused_there : (p : ℕ) (f g : List Term) (fault : LineFault) → IsProductRefused lim p f g fault → IsProductRefused setting.limit p f g fault
+  refused_there p f g fault refused = subst (λ (l : ℕ). IsProductRefused l p f g fault) (sym is.limit) refused
 
   pub outcome_there : (mode : Mode) (p : ℕ) (f g : List Term) (o : Outcome) → IsOutcome (division mode ord n p f g) o → IsOutcome (division mode setting.order n p f g) o
   outcome_there mode p f g o outcome = subst (λ (x : Order). IsOutcome (division mode x n p f g) o) (sym is.order) outcome

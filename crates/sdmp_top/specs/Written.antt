@@ -4,12 +4,12 @@ use Rattle.calc_session.specs.Answers.{Answers, joined, text}
 use Rattle.calc_session.specs.Session.{answers}
 use Rattle.sdmp_top.specs.Monomials.{packed}
 use Rattle.calc_session.specs.Demo.{demo_input, summary}
-use Rattle.calc_session.specs.declared.answers.Ending.{Ending}
-use Rattle.calc_session.specs.declared.answers.Ending.TheVariants as ending
+use Rattle.calc_session.specs.declared.ending.Ending.{Ending}
+use Rattle.calc_session.specs.declared.ending.Ending.TheVariants as ending
 use Rattle.sdmp_top.specs.declared.status.Status.{Status}
 use Rattle.sdmp_top.specs.declared.status.Status.TheVariants.{Done, Refused}
-use Rattle.sdmp_top.specs.declared.stop.Stop.{Stop}
-use Rattle.sdmp_top.specs.declared.stop.Stop.TheVariants as stop
+use Rattle.sdmp_top.specs.declared.answering_fault.AnsweringFault.{AnsweringFault}
+use Rattle.sdmp_top.specs.declared.answering_fault.AnsweringFault.TheVariants as stop
 use Rattle.sdmp_top.specs.Outside.{Appends, AppendsPart, Rose}
 
 -- the summary of the answers to the demo's input
@@ -37,8 +37,8 @@ status_of ending.Done = Done
 status_of ending.Refused = Refused
 
 -- the run came to the end of the answers
-abbrev pub IsAnswered : Status → Type 0
-IsAnswered status = (status ≡ Done) ⊎ (status ≡ Refused)
+abbrev pub IsAnsweredStatus : Status → Type 0
+IsAnsweredStatus status = (status ≡ Done) ⊎ (status ≡ Refused)
 
 -- The whole text of these answers stands after what was held, it has been flushed, and the status says how the answers end.
 pub record Answered (told : Answers) (result : Status) (old now : Option (List ℕ)) (is_flushed : Bool) : Type 0 where
@@ -47,7 +47,7 @@ pub record Answered (told : Answers) (result : Status) (old now : Option (List �
   pub flushed : is_flushed ≡ true
 
 -- What answering leaves: at its end the whole text stands in the sink, after a write fault a part of it, and after want of memory the first pieces.
-pub record IsAnswering (told : Answers) (old now : Option (List ℕ)) (before after : ℕ) (at_last : Type 0) (result : Result Ending Stop) : Type 0 where
+pub record IsAnswering (told : Answers) (old now : Option (List ℕ)) (before after : ℕ) (at_last : Type 0) (result : Result Ending AnsweringFault) : Type 0 where
   pub ending : IfOk result (λ end. told.ending ≡ end)
   pub written : OnOk result (Appends old now (text told))
   pub part : result ≡ Err stop.WriteFault → AppendsPart old now (text told)

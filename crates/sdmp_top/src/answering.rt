@@ -5,9 +5,9 @@ ghost use Rattle.calc_session.specs.Lines.{lines};
 ghost use Rattle.calc_session.specs.View.{answers_of};
 ghost use Rattle.sdmp_top.specs.Written.{IsAnswering};
 
+use crate::answering_fault::AnsweringFault;
 use crate::commands::answer_line;
 use crate::outside::Sink;
-use crate::stop::Stop;
 use crate::workers::Workers;
 use crate::writing::write_all;
 use calc_session::{BodySession, Ending, LineFault, split_line, write_fault};
@@ -61,7 +61,7 @@ pub fn answer_lines<T: Threads + Sync, G: Gate, R: CoeffRing, M: Monomial, K: Si
     first: u64,
     body: &[u8],
     sink: &mut K,
-) -> Result<Ending, Stop>
+) -> Result<Ending, AnsweringFault>
     requires { first + length body.now ≤ u64.MAX }
     ensures { IsAnswering (answers_of session.old first (lines body.now)) (K.held sink.old) (K.held sink.new) (K.faults sink.old) (K.faults sink.new) (K.at_last sink.new) result }
 {
@@ -72,10 +72,10 @@ pub fn answer_lines<T: Threads + Sync, G: Gate, R: CoeffRing, M: Monomial, K: Si
         let (line, later) = split_line(rest);
         out.clear();
         let Ok(next) = answer(alloc, by, session, number, line, &mut out) else {
-            return Err(Stop::NoMemory);
+            return Err(AnsweringFault::NoMemory);
         };
         if write_all(sink, &out).is_err() {
-            return Err(Stop::WriteFault);
+            return Err(AnsweringFault::WriteFault);
         }
         match next {
             Next::Refused => return Ok(Ending::Refused),

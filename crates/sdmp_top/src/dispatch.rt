@@ -10,8 +10,8 @@ ghost use Rattle.sdmp_top.specs.Outside.{Appends, AppendsPart, Rose};
 ghost use Rattle.sdmp_top.specs.Written.{AppendsPieces, IsAnswering};
 
 use crate::answering::answer_lines;
+use crate::answering_fault::AnsweringFault;
 use crate::outside::Sink;
-use crate::stop::Stop;
 use crate::workers::Workers;
 use crate::writing::write_all;
 use calc_session::{
@@ -30,14 +30,14 @@ pub fn answer_input<T: Threads + Sync, G: Gate, K: Sink>(
     by: &Workers<'_, T, G>,
     input: &[u8],
     sink: &mut K,
-) -> Result<Ending, Stop>
+) -> Result<Ending, AnsweringFault>
     ensures ending { IfOk result (λ ending. (answers packed input.now).ending ≡ ending) }
     ensures text { IfOk result (λ _. Appends (K.held sink.old) (K.held sink.new) (text (answers packed input.now))) }
-    ensures write_fault { IsErrOf result Stop.WriteFault → AppendsPart (K.held sink.old) (K.held sink.new) (text (answers packed input.now)) }
-    ensures no_memory { IsErrOf result Stop.NoMemory → AppendsPieces (K.held sink.old) (K.held sink.new) (answers packed input.now).pieces }
+    ensures write_fault { IsErrOf result AnsweringFault.WriteFault → AppendsPart (K.held sink.old) (K.held sink.new) (text (answers packed input.now)) }
+    ensures no_memory { IsErrOf result AnsweringFault.NoMemory → AppendsPieces (K.held sink.old) (K.held sink.new) (answers packed input.now).pieces }
     ensures later { K.faults sink.old ≤ K.faults sink.new }
-    ensures rose { IsErrOf result Stop.WriteFault → Rose (K.faults sink.old) (K.faults sink.new) (K.at_last sink.new) }
-    ensures steady { result ≢ Err Stop.WriteFault → K.faults sink.new ≡ K.faults sink.old }
+    ensures rose { IsErrOf result AnsweringFault.WriteFault → Rose (K.faults sink.old) (K.faults sink.new) (K.at_last sink.new) }
+    ensures steady { result ≢ Err AnsweringFault.WriteFault → K.faults sink.new ≡ K.faults sink.old }
 {
     match parse_header(alloc, input) {
         Ok(header) => answer_body(alloc, by, header, sink),
@@ -46,19 +46,24 @@ pub fn answer_input<T: Threads + Sync, G: Gate, K: Sink>(
 }
 
 // Ends the session with a fault line.
-fn refuse<K: Sink>(alloc: Global, line: u64, fault: LineFault, sink: &mut K) -> Result<Ending, Stop>
+fn refuse<K: Sink>(
+    alloc: Global,
+    line: u64,
+    fault: LineFault,
+    sink: &mut K,
+) -> Result<Ending, AnsweringFault>
     ensures { (told : Answers) → (fault ≢ LineFault.NoMemory → told ≡ refused (fault_line line fault))
         → IsAnswering told (K.held sink.old) (K.held sink.new) (K.faults sink.old) (K.faults sink.new) (K.at_last sink.new) result }
 {
     if let LineFault::NoMemory = fault {
-        return Err(Stop::NoMemory);
+        return Err(AnsweringFault::NoMemory);
     }
     let mut out = Vec::new(alloc);
     if write_fault(alloc, line, &fault, &mut out).is_err() {
-        return Err(Stop::NoMemory);
+        return Err(AnsweringFault::NoMemory);
     }
     if write_all(sink, &out).is_err() {
-        return Err(Stop::WriteFault);
+        return Err(AnsweringFault::WriteFault);
     }
     Ok(Ending::Refused)
 }
@@ -84,7 +89,7 @@ fn answer_body<T: Threads + Sync, G: Gate, K: Sink>(
     by: &Workers<'_, T, G>,
     header: Header<'_>,
     sink: &mut K,
-) -> Result<Ending, Stop>
+) -> Result<Ending, AnsweringFault>
     requires ring { IsChoice header.ring }
     requires numbers { header.line + length header.body.now ≤ u64.MAX }
     ensures { IsAnswering (body_answers (setting_of packed header.entry.names (characteristic_of header.entry.ring)) undefined header.entry.line (lines header.entry.body.now)) (K.held sink.old) (K.held sink.new) (K.faults sink.old) (K.faults sink.new) (K.at_last sink.new) result }
@@ -99,7 +104,7 @@ fn answer_in<T: Threads + Sync, G: Gate, R: CoeffRing, M: Monomial, K: Sink>(
     ring: R,
     header: Header<'_>,
     sink: &mut K,
-) -> Result<Ending, Stop>
+) -> Result<Ending, AnsweringFault>
     requires ring { R.characteristic ring ≡ characteristic_of header.ring }
     requires order { M.order ≡ packed.order }
     requires vars { M.VARS ≡ length header.names }

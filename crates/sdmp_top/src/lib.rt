@@ -2,6 +2,7 @@
 #![tactic(auto)]
 
 mod answering;
+mod answering_fault;
 mod commands;
 mod demo;
 mod dispatch;
@@ -13,7 +14,6 @@ mod real;
 mod shell;
 mod status;
 mod steady;
-mod stop;
 #[cfg(test)]
 mod tests;
 mod workers;

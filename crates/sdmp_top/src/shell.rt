@@ -6,14 +6,14 @@ ghost use Rattle.sdmp_top.specs.Monomials.{packed};
 ghost use Rattle.sdmp_words.specs.Words.{settings_of};
 ghost use Rattle.sdmp_words.specs.declared.settings.Settings.{Settings};
 ghost use Rattle.sdmp_top.specs.Outside.{AppendsPart, DidNotFail, Rose};
-ghost use Rattle.sdmp_top.specs.Written.{Answered, AppendsPieces, IsAnswered, demo_answers, wanted};
+ghost use Rattle.sdmp_top.specs.Written.{Answered, AppendsPieces, IsAnsweredStatus, demo_answers, wanted};
 
+use crate::answering_fault::AnsweringFault;
 use crate::demo::demo_summary;
 use crate::dispatch::answer_input;
 use crate::intake::{IntakeFault, MAX_INPUT, read_all};
 use crate::outside::{Failed, Sink, Source};
 use crate::status::Status;
-use crate::stop::Stop;
 use crate::workers::Workers;
 use crate::writing::write_all;
 use calc_session::Ending;
@@ -44,11 +44,11 @@ pub fn run<T: Threads + Sync, S: Source, K: Sink, G: Gate>(
         → result ≢ Status.NoMemory
         → Answered told result (K.held sink.old) (K.held sink.new) (K.flushed sink.new) }
     // Done and Refused.
-    ensures answered { IsAnswered result → (settings : Settings) → settings_of (map string_bytes words.now) ≡ Some settings
+    ensures answered { IsAnsweredStatus result → (settings : Settings) → settings_of (map string_bytes words.now) ≡ Some settings
         → (told : Answers) → wanted settings.demo (S.left source.old) ≡ Some told
         → Answered told result (K.held sink.old) (K.held sink.new) (K.flushed sink.new) }
-    ensures flushed { IsAnswered result → K.flushed sink.new ≡ true }
-    ensures ended { IsAnswered result → (settings : Settings) → settings_of (map string_bytes words.now) ≡ Some settings → settings.demo ≡ None
+    ensures flushed { IsAnsweredStatus result → K.flushed sink.new ≡ true }
+    ensures ended { IsAnsweredStatus result → (settings : Settings) → settings_of (map string_bytes words.now) ≡ Some settings → settings.demo ≡ None
         → (input : List ℕ) → S.left source.old ≡ Some input → S.left source.new ≡ Some [] }
     // The words.
     ensures bad_words { result ≡ Status.BadWords → settings_of (map string_bytes words.now) ≡ None }
@@ -95,10 +95,10 @@ fn run_session<T: Threads + Sync, G: Gate, S: Source, K: Sink>(
     source: &mut S,
     sink: &mut K,
 ) -> Status
-    ensures answered { IsAnswered result → (input : List ℕ) → S.left source.old ≡ Some input
+    ensures answered { IsAnsweredStatus result → (input : List ℕ) → S.left source.old ≡ Some input
         → Answered (answers packed input) result (K.held sink.old) (K.held sink.new) (K.flushed sink.new) }
-    ensures flushed { IsAnswered result → K.flushed sink.new ≡ true }
-    ensures ended { IsAnswered result → (input : List ℕ) → S.left source.old ≡ Some input → S.left source.new ≡ Some [] }
+    ensures flushed { IsAnsweredStatus result → K.flushed sink.new ≡ true }
+    ensures ended { IsAnsweredStatus result → (input : List ℕ) → S.left source.old ≡ Some input → S.left source.new ≡ Some [] }
     ensures words { result ≢ Status.BadWords }
     ensures read_fault { result ≡ Status.ReadFault → Rose (S.faults source.old) (S.faults source.new) (S.at_last source.new) }
     ensures source_steady { result ≢ Status.ReadFault → S.faults source.new ≡ S.faults source.old }
@@ -129,8 +129,8 @@ fn run_session<T: Threads + Sync, G: Gate, S: Source, K: Sink>(
     match answer_input(alloc, by, &input, sink) {
         Ok(Ending::Done) => flush_after(sink, Status::Done),
         Ok(Ending::Refused) => flush_after(sink, Status::Refused),
-        Err(Stop::WriteFault) => Status::WriteFault,
-        Err(Stop::NoMemory) => flush_after(sink, Status::NoMemory),
+        Err(AnsweringFault::WriteFault) => Status::WriteFault,
+        Err(AnsweringFault::NoMemory) => flush_after(sink, Status::NoMemory),
     }
 }
 
@@ -141,9 +141,9 @@ fn run_demo<T: Threads + Sync, G: Gate, K: Sink>(
     seed: u64,
     sink: &mut K,
 ) -> Status
-    ensures answered { IsAnswered result → Answered (demo_answers seed) result (K.held sink.old) (K.held sink.new) (K.flushed sink.new) }
-    ensures flushed { IsAnswered result → K.flushed sink.new ≡ true }
-    ensures told { IsAnswered result ⊎ (result ≡ Status.WriteFault) ⊎ (result ≡ Status.NoMemory) }
+    ensures answered { IsAnsweredStatus result → Answered (demo_answers seed) result (K.held sink.old) (K.held sink.new) (K.flushed sink.new) }
+    ensures flushed { IsAnsweredStatus result → K.flushed sink.new ≡ true }
+    ensures told { IsAnsweredStatus result ⊎ (result ≡ Status.WriteFault) ⊎ (result ≡ Status.NoMemory) }
     ensures write_fault { result ≡ Status.WriteFault → Rose (K.faults sink.old) (K.faults sink.new) (K.at_last sink.new) }
     ensures sink_steady { result ≢ Status.WriteFault → K.faults sink.new ≡ K.faults sink.old }
     ensures part { result ≡ Status.WriteFault → AppendsPart (K.held sink.old) (K.held sink.new) (text (demo_answers seed)) }

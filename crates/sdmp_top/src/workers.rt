@@ -2,7 +2,7 @@
 ghost use Rattle.std.specs.Prelude.{◌≡◌, ◌<◌, ◌≤◌, ℕ, List, IfOk, IfErr};
 ghost use Rattle.sdmp_laws.specs.Poly.{Term as TermOfSum};
 ghost use Rattle.mul_workers.specs.Products.{IsRefusal};
-ghost use Rattle.calc_session.specs.Product.{IsProduct, IsRefused};
+ghost use Rattle.calc_session.specs.Product.{IsProduct, IsProductRefused};
 ghost use Rattle.sdmp_words.specs.Words.{AreInRange};
 
 use calc_session::LineFault;
@@ -49,7 +49,7 @@ pub fn product<T: Threads + Sync, G: Gate, R: CoeffRing, M: Monomial>(
     requires moduli { f.now.modulus ≡ g.now.modulus }
     ensures modulus { IfOk result (λ h. h.modulus ≡ f.now.modulus) }
     ensures product { IfOk result (λ h. IsProduct M.order M.LIM f.now.modulus f.now.list g.now.list h.list) }
-    ensures refused { IfErr result (λ fault. IsRefused M.LIM f.now.modulus f.now.list g.now.list fault) }
+    ensures refused { IfErr result (λ fault. IsProductRefused M.LIM f.now.modulus f.now.list g.now.list fault) }
 {
     // the terms of the first factor are rows, and the fewer they are the smaller are the heaps
     if f.terms().len() <= g.terms().len() {
@@ -68,7 +68,7 @@ fn product_by_rows<T: Threads + Sync, G: Gate, R: CoeffRing, M: Monomial>(
     requires moduli { f.now.modulus ≡ g.now.modulus }
     ensures modulus { IfOk result (λ h. h.modulus ≡ f.now.modulus) }
     ensures product { IfOk result (λ h. IsProduct M.order M.LIM f.now.modulus f.now.list g.now.list h.list) }
-    ensures refused { IfErr result (λ fault. IsRefused M.LIM f.now.modulus f.now.list g.now.list fault) }
+    ensures refused { IfErr result (λ fault. IsProductRefused M.LIM f.now.modulus f.now.list g.now.list fault) }
 {
     match multiply(by.threads, alloc, f, g, by.workers, by.places, by.gate) {
         Ok(product) => Ok(product.poly),
@@ -77,7 +77,7 @@ fn product_by_rows<T: Threads + Sync, G: Gate, R: CoeffRing, M: Monomial>(
 }
 
 fn fault_of(fault: MulFault) -> LineFault
-    ensures { (lim p : ℕ) (f g : List TermOfSum) → IsRefusal lim p f g fault → IsRefused lim p f g result }
+    ensures { (lim p : ℕ) (f g : List TermOfSum) → IsRefusal lim p f g fault → IsProductRefused lim p f g result }
 {
     match fault {
         MulFault::DegreeBound { .. } => LineFault::DegreeBound,

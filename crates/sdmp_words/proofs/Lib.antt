@@ -1,7 +1,7 @@
 pub mod CommandLemmas
 pub mod States
 pub mod Rules
-pub mod Turns
+pub mod WalkSteps
 pub mod Walks
 pub mod Accepting
 pub mod Agreement

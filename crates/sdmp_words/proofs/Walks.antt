@@ -15,7 +15,7 @@ use Rattle.std.proofs.lemmas.Bool.{and_parts, not-true}
 use Rattle.sdmp_words.specs.Command.{bare, found_in, refused_for, sdmp}
 use Rattle.sdmp_words.proofs.States.{Given, Name, State, between, waits, workers, places, demo, step, finish, found_from, shape, rules, rule_for, rows_for, walk_at, pending_of, settle}
 use Rattle.sdmp_words.proofs.Rules.{no_value, rules_are, rules_of_shape, uses_stay}
-use Rattle.sdmp_words.proofs.Turns.{Leads, Settled, both_pass, first_fails, held, settle_of, settled_is, told, turn}
+use Rattle.sdmp_words.proofs.WalkSteps.{Leads, Settled, both_pass, first_fails, held, settle_of, settled_is, told, turn}
 
 -- no word is `--`
 abbrev pub has_no_dashes : List Text → Bool

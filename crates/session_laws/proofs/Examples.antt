@@ -19,9 +19,9 @@ use Rattle.calc_session.specs.Header.{modulus_of}
 use Rattle.calc_session.specs.Body.{Define, Show, definition, command}
 use Rattle.calc_session.specs.Product.{product}
 use Rattle.calc_session.specs.Session.{Monomials, Setting, setting_of, Defined, undefined, define, answers as answers_in, vars_answers, ring_answers, body_answers, answer_to, reading_at, text_line, product_in, division_lines}
-use Rattle.calc_session.specs.declared.answers.Ending.TheVariants.{Done}
+use Rattle.calc_session.specs.declared.ending.Ending.TheVariants.{Done}
 use Rattle.calc_session.specs.declared.ring.RingChoice.TheVariants.{Integers}
-use Rattle.session_laws.specs.Answered.{IsSum, IsRead, IsAnswered as IsAnsweredIn}
+use Rattle.session_laws.specs.Answered.{IsCanonicalList, IsRead, IsAnswered}
 use Rattle.session_laws.proofs.Answering.{answers_are_answered}
 
 abbrev packed : Monomials
@@ -30,14 +30,14 @@ packed = record { order = Grlex; limit = limit_of }
 abbrev answers : List ℕ → Answers
 answers bytes = answers_in packed bytes
 
-abbrev IsAnswered : List ℕ → Answers → Type 0
-IsAnswered bytes A = IsAnsweredIn packed bytes A
+abbrev IsAnsweredPacked : List ℕ → Answers → Type 0
+IsAnsweredPacked bytes A = IsAnswered packed bytes A
 
 -- the answers of a session without a fault
 abbrev all : List (List ℕ) → Answers
 all pieces = record { pieces = pieces; ending = Done }
 
-by_law : (bytes : List ℕ) (A : Answers) → answers bytes ≡ A → IsAnswered bytes A
+by_law : (bytes : List ℕ) (A : Answers) → answers bytes ≡ A → IsAnsweredPacked bytes A
 by_law bytes A e = (answers_are_answered packed bytes A).1 e
 
 -- (x + 1)*(x - 1) = x^2 - 1
@@ -48,7 +48,7 @@ difference_is : answers difference ≡ all (codes "x^2-1\n" ∷ [])
 unfolding answers_in digits cut_lines without_return words_of word_fault fault_behind effective vars_answers ring_answers definition command answer_to body_answers reading_at denotes class_of text_line product_in product times row term_times ◌⋅◌ norm terms put keep is_zero term_plus alike is_below tie_below lex_below degree
 difference_is = refl
 
-difference_answered : IsAnswered difference (all (codes "x^2-1\n" ∷ []))
+difference_answered : IsAnsweredPacked difference (all (codes "x^2-1\n" ∷ []))
 difference_answered = by_law difference (all (codes "x^2-1\n" ∷ [])) difference_is
 
 -- (x + 1)^2 = x^2 + 1 modulo 2
@@ -59,7 +59,7 @@ square_is : answers square ≡ all (codes "x^2+1\n" ∷ codes "x+1\n" ∷ [])
 unfolding answers_in digits cut_lines without_return words_of word_fault fault_behind effective vars_answers ring_answers modulus_of definition command answer_to body_answers reading_at denotes class_of text_line product_in product times row term_times ◌⋅◌ norm terms put keep is_zero term_plus alike is_below tie_below lex_below degree
 square_is = refl
 
-square_answered : IsAnswered square (all (codes "x^2+1\n" ∷ codes "x+1\n" ∷ []))
+square_answered : IsAnsweredPacked square (all (codes "x^2+1\n" ∷ codes "x+1\n" ∷ []))
 square_answered = by_law square (all (codes "x^2+1\n" ∷ codes "x+1\n" ∷ [])) square_is
 
 -- x^2 - 1 divided by x - 1, by x with a remainder, and by x
@@ -70,7 +70,7 @@ divisions_are : answers divisions ≡ all (codes "x+1\n" ∷ codes "x\n-1\n" ∷
 unfolding answers_in digits cut_lines without_return words_of word_fault fault_behind effective vars_answers ring_answers definition command answer_to body_answers reading_at denotes class_of text_line division_lines outcome is_empty is_unit asks_unit looked_at passes_early is_long ending quotient_list turns_bound turns_at turn_at turn_on listed factor first_in_scope rest_list minus negated term_neg lm lc over divides times row term_times ◌⋅◌ norm terms put keep is_zero term_plus alike is_below tie_below lex_below degree
 divisions_are = refl
 
-divisions_answered : IsAnswered divisions (all (codes "x+1\n" ∷ codes "x\n-1\n" ∷ codes "none\n" ∷ []))
+divisions_answered : IsAnsweredPacked divisions (all (codes "x+1\n" ∷ codes "x\n-1\n" ∷ codes "none\n" ∷ []))
 divisions_answered = by_law divisions (all (codes "x+1\n" ∷ codes "x\n-1\n" ∷ codes "none\n" ∷ [])) divisions_are
 
 -- no number stands behind a star: the fault of the third line ends the session
@@ -81,14 +81,14 @@ faulty_is : answers faulty ≡ refused (codes "line 3: syntax at 7\n")
 unfolding answers_in digits fault_words fault_column cut_lines without_return words_of word_fault fault_behind effective vars_answers ring_answers definition command answer_to body_answers reading_at denotes class_of
 faulty_is = refl
 
-faulty_answered : IsAnswered faulty (refused (codes "line 3: syntax at 7\n"))
+faulty_answered : IsAnsweredPacked faulty (refused (codes "line 3: syntax at 7\n"))
 faulty_answered = by_law faulty (refused (codes "line 3: syntax at 7\n")) faulty_is
 
 -- the rules give nothing else
 fourth_byte : Answers → ℕ
 fourth_byte A = get_or (text A) 3 0
 
-other_sign : IsAnswered difference (all (codes "x^2+1\n" ∷ [])) → ⊥
+other_sign : IsAnsweredPacked difference (all (codes "x^2+1\n" ∷ [])) → ⊥
 unfolding fourth_byte
 other_sign h =
     let e : ◌≡◌ {A = ℕ} 45 43 = ap fourth_byte (sym difference_is ∙ (answers_are_answered packed difference (all (codes "x^2+1\n" ∷ []))).0 h) in
@@ -123,7 +123,7 @@ x = record { monomial = 1 ∷ []; coefficient = pos 1 } ∷ []
 abbrev setting : Setting
 setting = setting_of packed (codes "x" ∷ []) 0
 
-one_term : IsSum setting x x
+one_term : IsCanonicalList setting x x
 unfolding Over Decreasing AllBelow Proper
 one_term = record {
   canonical = record { vectors = (refl, tt); decreasing = (tt, tt); proper = (refl, (λ e. absurd cc), tt) };
@@ -137,7 +137,7 @@ abbrev now : Defined
 now = define (codes "a") x undefined
 
 -- `a = x` defines a, and `show a` writes x
-shown_answered : IsAnswered shown (all (codes "x\n" ∷ []))
+shown_answered : IsAnsweredPacked shown (all (codes "x\n" ∷ []))
 unfolding shown cut_lines without_return words_of word_fault fault_behind effective definition command text_line digits degree
 shown_answered =
     inl (

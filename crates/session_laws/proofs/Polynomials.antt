@@ -17,14 +17,14 @@ use Rattle.calc_session.specs.Session.{Setting, reading_at, in_line, at_column, 
 use Rattle.calc_session.specs.declared.fault.LineFault.{LineFault}
 use Rattle.calc_session.specs.declared.fault.LineFault.TheVariants.{DegreeBound, CoefficientBound}
 use Rattle.calc_session.proofs.CommandLemmas.{product_err}
-use Rattle.session_laws.specs.Answered.{IsSum, IsRead, IsUnread, HasProduct, HasNoProduct}
+use Rattle.session_laws.specs.Answered.{IsCanonicalList, IsRead, IsUnread, HasProduct, HasNoProduct}
 
 module _ (setting : Setting) where
   -- a sum's list is the computed one
-  sum_is : (L F : List Term) → Over (length setting.variables) F → IsSum setting L F → L ≡ terms setting.order setting.modulus F
+  sum_is : (L F : List Term) → Over (length setting.variables) F → IsCanonicalList setting L F → L ≡ terms setting.order setting.modulus F
   sum_is L F o s = terms_only setting.order setting.modulus (length setting.variables) L F o s
 
-  sum_some : (F : List Term) → Over (length setting.variables) F → IsSum setting (terms setting.order setting.modulus F) F
+  sum_some : (F : List Term) → Over (length setting.variables) F → IsCanonicalList setting (terms setting.order setting.modulus F) F
   sum_some F o = terms_is setting.order setting.modulus (length setting.variables) F o
 
   -- ---- texts

@@ -22,14 +22,14 @@ use Rattle.calc_session.specs.declared.fault.LineFault.TheVariants.{VarsExpected
 
 -- ---- polynomials
 -- L is the list of the terms of the sum F
-abbrev pub IsSum : Setting → List Term → List Term → Type 0
-IsSum setting L F = IsTerms setting.order setting.modulus (length setting.variables) L F
+abbrev pub IsCanonicalList : Setting → List Term → List Term → Type 0
+IsCanonicalList setting L F = IsTerms setting.order setting.modulus (length setting.variables) L F
 
 -- the text denotes terms whose sum is f
 pub record IsRead (setting : Setting) (text : List ℕ) (f : List Term) : Type 0 where
   pub written : List Term
   pub denoted : IsDenoted setting.variables setting.modulus setting.limit text (Ok written)
-  pub sum : IsSum setting f written
+  pub sum : IsCanonicalList setting f written
 
 -- the text, which begins at this place of its line, has a fault, and the line tells it with its column
 pub record IsUnread (setting : Setting) (start : ℕ) (text : List ℕ) (fault : LineFault) : Type 0 where
@@ -40,7 +40,7 @@ pub record IsUnread (setting : Setting) (start : ℕ) (text : List ℕ) (fault :
 -- f and g have the product h, within the bounds
 pub record HasProduct (setting : Setting) (f g h : List Term) : Type 0 where
   pub room : HasRoom setting.limit setting.modulus f g
-  pub sum : IsSum setting h (times f g)
+  pub sum : IsCanonicalList setting h (times f g)
 
 -- their product would pass a bound: that on degrees comes first
 abbrev pub HasNoProduct : Setting → List Term → List Term → LineFault → Type 0

@@ -7,9 +7,9 @@ use Rattle.text_laws.specs.declared.ByteClass.{ByteClass}
 use Rattle.text_laws.specs.declared.ByteClass.TheVariants.{Blank, Digit, Letter, Sign, Star, Caret}
 
 -- the first byte, if there is one, isn't such
-abbrev pub Stop : (ByteClass → Bool) → List ℕ → Type 0
-Stop p [] = Unit {0}
-Stop p (b ∷ bs) = p (class_of b) ≡ false
+abbrev pub StopsAt : (ByteClass → Bool) → List ℕ → Type 0
+StopsAt p [] = Unit {0}
+StopsAt p (b ∷ bs) = p (class_of b) ≡ false
 
 each : (P Q : ByteClass → Type 0) → ((c : ByteClass) → P c → Q c) → (ds : List ℕ) → Each P ds → Each Q ds
 each P Q f [] h = tt
@@ -32,15 +32,15 @@ words_are = each (λ c. (c ≡ Letter) ⊎ (c ≡ Digit)) (λ c. is_word c ≡ t
     word c (inr e) = ap is_word e
 
 -- ---- what ends a word
-pub ends_stop : (p : ByteClass → Bool) → (p Sign ≡ false) → (p Star ≡ false) → (rest : List ℕ) → EndsPower rest → Stop p rest
+pub ends_stop : (p : ByteClass → Bool) → (p Sign ≡ false) → (p Star ≡ false) → (rest : List ℕ) → EndsPower rest → StopsAt p rest
 ends_stop p a b [] h = tt
 ends_stop p a b (x ∷ rest) (inl e) = ap p e ∙ a
 ends_stop p a b (x ∷ rest) (inr e) = ap p e ∙ b
 
-pub blanks_stop : (p : ByteClass → Bool) → p Blank ≡ false → (bl rest : List ℕ) → AreBlanks bl → Stop p rest → Stop p (bl ++ rest)
+pub blanks_stop : (p : ByteClass → Bool) → p Blank ≡ false → (bl rest : List ℕ) → AreBlanks bl → StopsAt p rest → StopsAt p (bl ++ rest)
 blanks_stop p a [] rest h g = g
 blanks_stop p a (b ∷ bl) rest h g = ap p h.0 ∙ a
 
-pub raised_stop : (p : ByteClass → Bool) → (p Sign ≡ false) → (p Star ≡ false) → (p Caret ≡ false) → (r : Option Raised) (rest : List ℕ) → IsRaised r → EndsPower rest → Stop p (spell_raised r ++ rest)
+pub raised_stop : (p : ByteClass → Bool) → (p Sign ≡ false) → (p Star ≡ false) → (p Caret ≡ false) → (r : Option Raised) (rest : List ℕ) → IsRaised r → EndsPower rest → StopsAt p (spell_raised r ++ rest)
 raised_stop p a b c None rest h g = ends_stop p a b rest g
 raised_stop p a b c (Some r) rest h g = ap p h.0.byte ∙ c

@@ -6,10 +6,10 @@ use Rattle.text_laws.specs.Grammar.{Mark, Word, Raised, Power, Factor, Head, Num
 use Rattle.text_laws.specs.Summands.{exponent_of, power_at, factors_at, product_at, is_minus, signed_at, summands}
 use Rattle.text_laws.specs.Reading.{is_blank, is_sign, is_caret, is_word, Token, word_front, tokens, before_sign, exponent_before, powers_in, number_in, summand_in, signed_in, summands_in}
 use Rattle.text_laws.specs.declared.ByteClass.TheVariants.{Sign}
-use Rattle.text_laws.proofs.Fronts.{Stop, digits_words, words_are, ends_stop, blanks_stop, raised_stop}
+use Rattle.text_laws.proofs.Fronts.{StopsAt, digits_words, words_are, ends_stop, blanks_stop, raised_stop}
 
 -- ---- the tokens of bytes
-front_is : (ds rest : List ℕ) → Each (λ c. is_word c ≡ true) ds → Stop is_word rest → word_front (ds ++ rest) ≡ ds
+front_is : (ds rest : List ℕ) → Each (λ c. is_word c ≡ true) ds → StopsAt is_word rest → word_front (ds ++ rest) ≡ ds
 front_is [] [] h g = refl
 front_is [] (b ∷ rest) h g = rw g
 front_is (d ∷ ds) rest h g = rw h.0 (ap (λ l. d ∷ l) (front_is ds rest h.1 g))
@@ -18,7 +18,7 @@ within_word : (ds rest : List ℕ) (at : ℕ) → Each (λ c. is_word c ≡ true
 within_word [] rest at h = ap (λ k. tokens true k rest) (omega arith)
 within_word (d ∷ ds) rest at h = rw h.0 (within_word ds rest (suc at) h.1 ∙ ap (λ k. tokens true k rest) (omega arith))
 
-behind_word : (rest : List ℕ) (at : ℕ) → Stop is_word rest → tokens true at rest ≡ tokens false at rest
+behind_word : (rest : List ℕ) (at : ℕ) → StopsAt is_word rest → tokens true at rest ≡ tokens false at rest
 behind_word [] at h = refl
 behind_word (b ∷ rest) at h = rw h
 
@@ -33,10 +33,10 @@ word_token at w = record { at = at; first = w.first; more = w.more }
 abbrev mark_token : ℕ → Mark → Token
 mark_token at m = record { at = at; first = m.byte; more = [] }
 
-word_tokens : (w : Word) (rest : List ℕ) (at : ℕ) → is_word (class_of w.first) ≡ true → Each (λ c. is_word c ≡ true) w.more → AreBlanks w.blanks → Stop is_word rest
+word_tokens : (w : Word) (rest : List ℕ) (at : ℕ) → is_word (class_of w.first) ≡ true → Each (λ c. is_word c ≡ true) w.more → AreBlanks w.blanks → StopsAt is_word rest
     → tokens false at (spell_word w ++ rest) ≡ word_token at w ∷ tokens false (at + length (spell_word w)) rest
 word_tokens w rest at f m b s =
-    let stop : Stop is_word (w.blanks ++ rest) = blanks_stop is_word refl w.blanks rest b s in
+    let stop : StopsAt is_word (w.blanks ++ rest) = blanks_stop is_word refl w.blanks rest b s in
     let e : (w.more ++ w.blanks) ++ rest ≡ w.more ++ (w.blanks ++ rest) = append_assoc w.more w.blanks rest in
     let n : length (spell_word w) ≡ suc (length w.more + length w.blanks) = ap suc (length-append w.more w.blanks) in
     rw f (
@@ -49,10 +49,10 @@ word_tokens w rest at f m b s =
     )
     )
 
-number_tokens : (w : Word) (rest : List ℕ) (at : ℕ) → IsNumber w → Stop is_word rest → tokens false at (spell_word w ++ rest) ≡ word_token at w ∷ tokens false (at + length (spell_word w)) rest
+number_tokens : (w : Word) (rest : List ℕ) (at : ℕ) → IsNumber w → StopsAt is_word rest → tokens false at (spell_word w ++ rest) ≡ word_token at w ∷ tokens false (at + length (spell_word w)) rest
 number_tokens w rest at h s = word_tokens w rest at (ap is_word h.first) (digits_words w.more h.more) h.blanks s
 
-name_tokens : (w : Word) (rest : List ℕ) (at : ℕ) → IsName w → Stop is_word rest → tokens false at (spell_word w ++ rest) ≡ word_token at w ∷ tokens false (at + length (spell_word w)) rest
+name_tokens : (w : Word) (rest : List ℕ) (at : ℕ) → IsName w → StopsAt is_word rest → tokens false at (spell_word w ++ rest) ≡ word_token at w ∷ tokens false (at + length (spell_word w)) rest
 name_tokens w rest at h s = word_tokens w rest at (ap is_word h.first) (words_are w.more h.more) h.blanks s
 
 mark_tokens : (m : Mark) (rest : List ℕ) (at : ℕ) → is_word (class_of m.byte) ≡ false → is_blank (class_of m.byte) ≡ false → AreBlanks m.blanks

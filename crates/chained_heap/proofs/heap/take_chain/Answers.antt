@@ -5,7 +5,7 @@ use Rattle.chained_heap.specs.declared.node.Place.TheVariants.{Out, Taken}
 use Rattle.chained_heap.specs.declared.node.Place.{Place}
 use Rattle.std.proofs.lemmas.List.Sums.{sum_by-set}
 use Rattle.chained_heap.specs.Shape.{Shape, TakesChain, is_free, place_at}
-use Rattle.chained_heap.proofs.Moves.{few}
+use Rattle.chained_heap.proofs.Insertions.{few}
 use Rattle.chained_heap.proofs.Takes.{move_one, takes_begins, takes_steps}
 use Rattle.chained_heap.proofs.heap.take_chain.Goals as goal
 

@@ -4,7 +4,7 @@ use Rattle.sdmp_laws.specs.Order.{degree}
 use Rattle.sdmp_laws.specs.Ring.{red, IsUnit, IsInverse}
 use Rattle.sdmp_laws.specs.Poly.{IsPoly, lc}
 use Rattle.sdmp_laws.specs.declared.Mode.TheVariants.{Exact, Remainder}
-use Rattle.row_merge.proofs.Keeps.{lead_degree, positive_from}
+use Rattle.row_merge.proofs.LearnedRows.{lead_degree, positive_from}
 use Rattle.division_laws.specs.Outcome.{IsOutcome}
 use Rattle.divide_core.proofs.Ends.{lead_facts, nothing_in, unit_from, no_unit_from}
 use Rattle.divide_core.proofs.alone.divide_alone.Goals as goal

@@ -15,12 +15,12 @@ use Rattle.sdmp_laws.proofs.LongLemmas.{prefix_begins}
 use Rattle.row_merge.proofs.RowLists.{long_sum}
 use Rattle.canonical_terms.specs.View.{term_of, sum_of}
 use Rattle.row_merge.specs.Learned.{QuotientState}
-use Rattle.row_merge.proofs.Keeps.{push_sum}
+use Rattle.row_merge.proofs.LearnedRows.{push_sum}
 use Rattle.division_laws.specs.Outcome.{division_of, IsOutcome, HasQuotient, HasRemainder}
 use mathlib.Core.List.{IsPrefix}
 use Rattle.sdmp_laws.specs.Limits.{PassesBound}
 use Rattle.divide_core.specs.Dividing.{TakesNext, IsTermQuotient}
-use Rattle.divide_core.proofs.Turns.{begins, fewer, turn_zero, turn_kept, turn_found, found_begun, none_fits, degree_here, size_here, not_passed}
+use Rattle.divide_core.proofs.DividingSteps.{begins, fewer, turn_zero, turn_kept, turn_found, found_begun, none_fits, degree_here, size_here, not_passed}
 use Rattle.divide_core.proofs.Loop.{all_rows, taken_smaller, found_smaller, found_measure, known_below, bound_answers, bound_kept}
 use Rattle.divide_core.proofs.Ends.{quotient_canonical, quotient_norm, rest_canonical, exact_ends, remainder_ends, other, no_fit_outside, fit_degree, fit_size, fit_same, dividing_same}
 use Rattle.sdmp_laws.proofs.ListLemmas.{each_degree}

@@ -1,6 +1,6 @@
 use Rattle.std.proofs.Common.{◌+◌, ◌-◌, length}
 use Rattle.whole_laws.specs.Notes.{script_list}
-use Rattle.mul_workers.proofs.Turns.{GoesOn}
+use Rattle.mul_workers.proofs.BetweenSends.{GoesOn}
 use Rattle.mul_workers.proofs.part.work.Given as goal
 
 abbrev pub invariant-loop-sender : goal.invariant-loop-sender

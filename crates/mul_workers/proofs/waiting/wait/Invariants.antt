@@ -3,7 +3,7 @@ use Rattle.whole_laws.specs.Notes.{NoEnd, Carry}
 use Rattle.term_ring.specs.Names.{ring_name}
 use Rattle.term_ring.specs.Sending.{IsRefused}
 use Rattle.mul_workers.specs.Workers.{IsReceipt}
-use Rattle.mul_workers.proofs.Turns.{GoesOn}
+use Rattle.mul_workers.proofs.BetweenSends.{GoesOn}
 use Rattle.mul_workers.proofs.waiting.wait.Given as goal
 
 abbrev pub invariant-loop-turn : goal.invariant-loop-turn

@@ -1,6 +1,6 @@
 use Rattle.std.proofs.Common.{◌≡◌, ◌%◌, ◌++◌, ◌∷◌, [], cond, eq-eqb, sym, ◌∙◌, subst, All}
 use Rattle.std.proofs.lemmas.List.Elements.{All-nil, All-push, All-get_or}
-use Rattle.row_merge.proofs.Keeps.{none_first, later_more, later_skip}
+use Rattle.row_merge.proofs.LearnedRows.{none_first, later_more, later_skip}
 use Rattle.row_merge.proofs.quotient_rows.later_rows.Goals as goal
 
 pub loop-place-init : goal.loop-place-init

@@ -4,7 +4,7 @@ use Rattle.std.specs.List.{sum_by}
 use Rattle.chained_heap.specs.Shape.{present}
 use Rattle.canonical_terms.specs.View.{sum_of}
 use Rattle.row_merge.proofs.Counts.{two_insertions}
-use Rattle.row_merge.proofs.Moves.{moved_count}
+use Rattle.row_merge.proofs.RowSteps.{moved_count}
 use Rattle.row_merge.proofs.RowLists.{over_sum, long_sum}
 use Rattle.row_merge.proofs.Popped.{popped_read, popped_top, may_open, may_follow, moved_on}
 use Rattle.row_merge.proofs.waiting.move_on.Given as given

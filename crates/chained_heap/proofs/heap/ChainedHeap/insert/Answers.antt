@@ -8,7 +8,7 @@ use Rattle.chained_heap.specs.Order.{node_lt, Climbs}
 use Rattle.chained_heap.specs.declared.node.Node.{Node}
 use Rattle.chained_heap.specs.declared.node.Place.TheVariants.{In}
 use Rattle.chained_heap.specs.Shape.{Shape, IsChainedHeap, never, no_row, place_at}
-use Rattle.chained_heap.proofs.Moves.{insert_room, insert_chain, has_room}
+use Rattle.chained_heap.proofs.Insertions.{insert_room, insert_chain, has_room}
 use Rattle.chained_heap.proofs.Slices.{same_mono, long_take, front, get_take}
 use Rattle.chained_heap.proofs.Orders.{eq_back, eq_self}
 use Rattle.chained_heap.proofs.heap.ChainedHeap.insert.Goals as goal

@@ -13,7 +13,7 @@ use Rattle.chained_heap.proofs.Slices.{long_take, get_take, front}
 use Rattle.chained_heap.proofs.Orders.{eq_self}
 use Rattle.chained_heap.proofs.Takes.{retest, free_at, root_real}
 use Rattle.chained_heap.proofs.Tops.{top_is, root_most, none_at, none_left, all_done}
-use Rattle.chained_heap.proofs.Turns.{Turn, Turned, let_loose, turned, closes, turn_cost}
+use Rattle.chained_heap.proofs.TakeTopLoop.{BeforeTake, AfterTake, let_loose, turned, closes, turn_cost}
 use Rattle.chained_heap.proofs.heap.ChainedHeap.take_top.Given as given
 use Rattle.chained_heap.proofs.heap.ChainedHeap.take_top.Goals as goal
 use Rattle.chained_heap.proofs.heap.ChainedHeap.take_top.Goals.{After-index, After-deref_mut-in-loop-self, After-take_chain-self-inside}
@@ -45,7 +45,7 @@ first_top g c z =
 -- ---- one turn of the loop
 -- the root is out of the nodes, and its chain is loose
 record Emptied (g : given.Over) (c : After-deref_mut-in-loop-self g) : Type 0 where
-  turn : Turn g.M.Ord.cmp c.index.result.now.mono c.loop-self.self-inside.nodes.items (c.loop-self.self-inside.len - 1 + 1) c.loop-self.self-inside.next.items c.loop-self.self-inside.places.items c.loop-self.self-inside.taken c.self.inside.places.items
+  turn : BeforeTake g.M.Ord.cmp c.index.result.now.mono c.loop-self.self-inside.nodes.items (c.loop-self.self-inside.len - 1 + 1) c.loop-self.self-inside.next.items c.loop-self.self-inside.places.items c.loop-self.self-inside.taken c.self.inside.places.items
   perm : IsPermutation (take (c.loop-self.self-inside.len - 1 + 1) c.loop-self.self-inside.nodes.items) (c.index-in-loop-self.result.now ∷ take (c.loop-self.self-inside.len - 1) c.remove_root.new.nodes)
   ordered : IsOrdered g.M.Ord.cmp c.remove_root.new.nodes (c.loop-self.self-inside.len - 1)
   long : length c.remove_root.new.nodes ≡ length c.loop-self.self-inside.nodes.items
@@ -58,7 +58,7 @@ emptied g c =
     let n = h.len - 1 in
     let root = c.index-in-loop-self.result.now in
     let up : h.len ≡ n + 1 = omega (arith, i.nonempty) in
-    let t = subst (λ k. Turn g.M.Ord.cmp c.index.result.now.mono h.nodes.items k h.next.items h.places.items h.taken c.self.inside.places.items) up i.turn in
+    let t = subst (λ k. BeforeTake g.M.Ord.cmp c.index.result.now.mono h.nodes.items k h.next.items h.places.items h.taken c.self.inside.places.items) up i.turn in
     let e = c.deref_mut.ensures.value in
     let first : (d : Node _) → get_or c.deref_mut.result.now 0 d ≡ c.index-in-loop-self.result.now = λ d. (λ k. get_or (e k) 0 d) ∙ get_or_default h.nodes.items 0 d c.index-in-loop-self.result.now (omega (arith, i.nonempty, t.turned.within)) ∙ sym c.index-in-loop-self.ensures in
     let perm = subst (λ ys. IsPermutation (take (h.len - 1 + 1) ys) (c.index-in-loop-self.result.now ∷ take (h.len - 1) c.remove_root.new.nodes)) e (c.remove_root.ensures.permutation c.index-in-loop-self.result.now first) in
@@ -74,7 +74,7 @@ emptied g c =
 
 -- the rows of its chain are taken, at a cost
 record Took (g : given.Over) (c : After-take_chain-self-inside g) : Type 0 where
-  done : Turned g.M.Ord.cmp c.index.result.now.mono c.remove_root.new.nodes (c.loop-self.self-inside.len - 1) c.take_chain-self-inside.new.next c.take_chain-self-inside.new.places.items c.take_chain-self-inside.result c.self.inside.places.items
+  done : AfterTake g.M.Ord.cmp c.index.result.now.mono c.remove_root.new.nodes (c.loop-self.self-inside.len - 1) c.take_chain-self-inside.new.next c.take_chain-self-inside.new.places.items c.take_chain-self-inside.result c.self.inside.places.items
   nodes : take c.loop-self.self-inside.nodes.len (c.remove_root.new.nodes ++ drop (length c.remove_root.new.nodes) c.loop-self.self-inside.nodes.items) ≡ c.remove_root.new.nodes
   next : take c.loop-self.self-inside.next.len (c.take_chain-self-inside.new.next ++ drop (length c.take_chain-self-inside.new.next) c.loop-self.self-inside.next.items) ≡ c.take_chain-self-inside.new.next
   left : length (take (c.loop-self.self-inside.len - 1) c.remove_root.new.nodes) ≡ c.loop-self.self-inside.len - 1
@@ -189,10 +189,10 @@ loop-self-preserved g c =
     let is1 : c.index-in-loop-self-2.result.now ≡ get_or c.remove_root.new.nodes 0 c.index-in-loop-self-2.result.now = subst (λ ns. c.index-in-loop-self-2.result.now ≡ get_or ns 0 c.index-in-loop-self-2.result.now) f.nodes c.index-in-loop-self-2.ensures in
     let eq : is_eq (g.M.Ord.cmp c.index-in-loop-self-2.result.now.mono c.index.result.now.mono) ≡ true = ap is_eq (monos.ordered _ c.index.result.now.mono ∙ sym c.higher.ensures.value) ∙ is_eq_index c.higher.result ∙ flop _ c.if-ne.ensures in
     let roots : (d : Node _) → is_eq (g.M.Ord.cmp (get_or c.remove_root.new.nodes 0 d).mono c.index.result.now.mono) ≡ true = λ d. (λ k. is_eq (g.M.Ord.cmp ((get_or_default c.remove_root.new.nodes 0 d c.index-in-loop-self-2.result.now (omega (arith, c.if-self-eq0-2.false, f.done.within)) ∙ sym is1) k).mono c.index.result.now.mono)) ∙ eq in
-    let turn : Turn g.M.Ord.cmp c.index.result.now.mono c.remove_root.new.nodes (c.loop-self.self-inside.len - 1) c.take_chain-self-inside.new.next c.take_chain-self-inside.new.places.items c.take_chain-self-inside.result c.self.inside.places.items = record { turned = f.done; root = roots } in
+    let turn : BeforeTake g.M.Ord.cmp c.index.result.now.mono c.remove_root.new.nodes (c.loop-self.self-inside.len - 1) c.take_chain-self-inside.new.next c.take_chain-self-inside.new.places.items c.take_chain-self-inside.result c.self.inside.places.items = record { turned = f.done; root = roots } in
     record {
-      turn = subst (λ ns. Turn g.M.Ord.cmp c.index.result.now.mono ns (c.loop-self.self-inside.len - 1) (take h.next.len (c.take_chain-self-inside.new.next ++ drop (length c.take_chain-self-inside.new.next) h.next.items)) c.take_chain-self-inside.new.places.items c.take_chain-self-inside.result c.self.inside.places.items) (sym f.nodes)
-          (subst (λ ns. Turn g.M.Ord.cmp c.index.result.now.mono c.remove_root.new.nodes (c.loop-self.self-inside.len - 1) ns c.take_chain-self-inside.new.places.items c.take_chain-self-inside.result c.self.inside.places.items) (sym f.next) turn);
+      turn = subst (λ ns. BeforeTake g.M.Ord.cmp c.index.result.now.mono ns (c.loop-self.self-inside.len - 1) (take h.next.len (c.take_chain-self-inside.new.next ++ drop (length c.take_chain-self-inside.new.next) h.next.items)) c.take_chain-self-inside.new.places.items c.take_chain-self-inside.result c.self.inside.places.items) (sym f.nodes)
+          (subst (λ ns. BeforeTake g.M.Ord.cmp c.index.result.now.mono c.remove_root.new.nodes (c.loop-self.self-inside.len - 1) ns c.take_chain-self-inside.new.places.items c.take_chain-self-inside.result c.self.inside.places.items) (sym f.next) turn);
       nonempty = omega (arith, c.if-self-eq0-2.false);
       counted = λ b q. let k = f.cost b q in omega (arith, k, c.higher.ensures.compares);
       products = c.higher.ensures.products ∙ c.remove_root.ensures.products ∙ c.loop-self.invariant.products;

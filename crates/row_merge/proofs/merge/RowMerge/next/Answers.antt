@@ -7,7 +7,7 @@ use Rattle.row_merge.specs.Rows.{strided, seen, IsFalling, made, entered}
 use Rattle.row_merge.specs.Part.{row_count}
 use Rattle.row_merge.proofs.RowLists.{long_sum}
 use Rattle.row_merge.proofs.Falls.{length-strided}
-use Rattle.row_merge.proofs.Keeps.{move_rows}
+use Rattle.row_merge.proofs.LearnedRows.{move_rows}
 use Rattle.row_merge.proofs.PartLemmas.{next_seen, ends_seen, length-part, part_room}
 use Rattle.row_merge.proofs.merge.RowMerge.next.Given as given
 use Rattle.row_merge.proofs.merge.RowMerge.next.Goals as goal

@@ -1,7 +1,7 @@
 use Rattle.std.proofs.Common.{◌≡◌, ◌≢◌, ◌<◌, length, [], ap, ◌∙◌, subst, arith}
 use Rattle.sdmp_laws.specs.Poly.{lm}
 use Rattle.row_merge.specs.Learned.{QuotientState}
-use Rattle.row_merge.proofs.Keeps.{first_row, positive_from}
+use Rattle.row_merge.proofs.LearnedRows.{first_row, positive_from}
 use Rattle.row_merge.proofs.quotient_rows.QuotientRows.first.Goals as goal
 
 pub returns : goal.returns

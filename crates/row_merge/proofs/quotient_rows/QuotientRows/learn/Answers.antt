@@ -8,7 +8,7 @@ use Rattle.sdmp_laws.specs.Limits.{greatest_norm}
 use Rattle.canonical_terms.specs.View.{term_of, sum_of}
 use Rattle.row_merge.specs.Learned.{QuotientState, unread, product_at, AreRows, AreLearned, IsMoved}
 use Rattle.row_merge.proofs.RowLists.{long_sum}
-use Rattle.row_merge.proofs.Keeps.{rows_low, learned_low, push_sum, learn_kept, first_out, learn_rows, learn_left}
+use Rattle.row_merge.proofs.LearnedRows.{rows_low, learned_low, push_sum, learn_kept, first_out, learn_rows, learn_left}
 use Rattle.row_merge.proofs.quotient_rows.QuotientRows.learn.Goals as goal
 
 pub insert_if-requires-clause-within : goal.insert_if-requires-clause-within

@@ -7,8 +7,8 @@ use Rattle.chained_heap.specs.declared.node.Place.{Place}
 use Rattle.chained_heap.specs.declared.node.Place.TheVariants.{Out}
 use Rattle.row_merge.specs.Learned.{unread, AreLearned}
 use Rattle.row_merge.proofs.RowLists.{long_sum}
-use Rattle.row_merge.proofs.Moves.{rows_start, none_left}
-use Rattle.row_merge.proofs.Keeps.{start_kept, move_rows}
+use Rattle.row_merge.proofs.RowSteps.{rows_start, none_left}
+use Rattle.row_merge.proofs.LearnedRows.{start_kept, move_rows}
 use Rattle.row_merge.proofs.quotient_rows.QuotientRows.new.Goals as goal
 
 pub invariant_of-result : goal.invariant_of-result

@@ -7,7 +7,7 @@ use Rattle.sdmp_laws.specs.Poly.{norm}
 use Rattle.canonical_terms.specs.View.{term_of, sum_of}
 use Rattle.row_merge.specs.Learned.{QuotientState, unread, HandOut, IsGreatest}
 use Rattle.row_merge.proofs.Places.{empty_has_none, top_is_greatest, taken_rows}
-use Rattle.row_merge.proofs.Keeps.{rows_low, learned_low, left_fits, move_rows, move_out}
+use Rattle.row_merge.proofs.LearnedRows.{rows_low, learned_low, left_fits, move_rows, move_out}
 use Rattle.row_merge.proofs.quotient_rows.QuotientRows.next.Goals as goal
 
 pub returns-in-None-clause-sum : goal.returns-in-None-clause-sum

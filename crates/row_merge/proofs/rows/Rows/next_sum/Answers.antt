@@ -11,8 +11,8 @@ use Rattle.row_merge.specs.Learned.{unread, TakesOut}
 use Rattle.row_merge.specs.Rows.{made, entered, taken_rows}
 use Rattle.row_merge.proofs.Places.{empty_has_none}
 use Rattle.row_merge.proofs.Places as places
-use Rattle.row_merge.proofs.Keeps.{degrees_of, left_norm, move_rows}
-use Rattle.row_merge.proofs.Moves.{none_taken}
+use Rattle.row_merge.proofs.LearnedRows.{degrees_of, left_norm, move_rows}
+use Rattle.row_merge.proofs.RowSteps.{none_taken}
 use Rattle.row_merge.proofs.Counts.{taken_count, present_count, top_counts}
 use Rattle.row_merge.proofs.Sums.{sum_of_out}
 use Rattle.row_merge.proofs.rows.Rows.next_sum.Given as given

@@ -4,8 +4,8 @@ use Rattle.canonical_terms.specs.View.{sum_of}
 use Rattle.chained_heap.specs.Shape.{present}
 use Rattle.row_merge.specs.Rows.{IsRows}
 use Rattle.row_merge.proofs.RowLists.{long_sum}
-use Rattle.row_merge.proofs.Keeps.{degrees_of}
-use Rattle.row_merge.proofs.Moves.{none_out, rows_begin}
+use Rattle.row_merge.proofs.LearnedRows.{degrees_of}
+use Rattle.row_merge.proofs.RowSteps.{none_out, rows_begin}
 use Rattle.row_merge.proofs.rows.Rows.start.Goals as goal
 
 pub insert_if-requires-clause-within : goal.insert_if-requires-clause-within

@@ -1,7 +1,7 @@
 use Rattle.std.proofs.Common.{rules, subst, sym}
 use Rattle.atomic_table.specs.Table.{Allows}
 use Rattle.turnstile.specs.Turns.{Kept, Left, Stays}
-use Rattle.turnstile.proofs.Keeps.{filled, leaves}
+use Rattle.turnstile.proofs.RuleStays.{filled, leaves}
 use Rattle.turnstile.proofs.turn.Turnstile.leave.Goals as goal
 
 pub store-requires : goal.store-requires

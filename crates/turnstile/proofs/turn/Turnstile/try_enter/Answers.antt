@@ -1,7 +1,7 @@
 use Rattle.std.proofs.Common.{rules, sym, ap, ◌∙◌, Some, ◌∷◌}
 use Rattle.atomic_table.specs.Table.{rest}
 use Rattle.turnstile.specs.Turns.{Stays}
-use Rattle.turnstile.proofs.Keeps.{enters}
+use Rattle.turnstile.proofs.RuleStays.{enters}
 use Rattle.turnstile.proofs.turn.Turnstile.try_enter.Goals as goal
 
 pub compare_exchange-found-requires : goal.compare_exchange-found-requires

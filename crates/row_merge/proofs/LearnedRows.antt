@@ -1,4 +1,4 @@
--- What the rows keep: degrees, norms, and what is handed out and learned.
+-- Rows and the terms that they learn: degrees, norms, and what is handed out.
 use Rattle.std.proofs.Common.{◌≡◌, ◌≢◌, ℕ, zero, suc, ◌+◌, ◌*◌, ◌<◌, ◌≤◌, Bool, true, false, true≢false, cond, eqb, ne_eqb, ◌%◌, List, [], ◌∷◌, ◌++◌, length, take, drop, get_or, Option, None, ℤ, unsigned_abs, refl, sym, ap, ◌∙◌, subst, arith, All, mul-le-mul_left, append-nil}
 use Rattle.std.proofs.lemmas.Int.{unsigned_abs-mul}
 use Rattle.std.specs.List.Sorted.{IsPermutation}
@@ -19,7 +19,7 @@ use Rattle.chained_heap.specs.Shape.{place_at}
 use Rattle.row_merge.specs.Learned.{unread, product_at, AreRows, IsMoved, TakesOut, AreLearned}
 use Rattle.row_merge.proofs.Products.{learn_one}
 use Rattle.row_merge.proofs.Places.{read_low}
-use Rattle.row_merge.proofs.Moves.{rows_learned}
+use Rattle.row_merge.proofs.RowSteps.{rows_learned}
 use Rattle.row_merge.proofs.Popped.{moved_same, waits_out}
 use Rattle.sdmp_laws.proofs.ListLemmas.{Over-every, Decreasing-every, AllDegrees-every, norm-every-le}
 

@@ -1,4 +1,4 @@
--- The turns of `take_top`.
+-- The loop of `take_top`: what holds before the root's rows are taken, and after.
 use Rattle.std.proofs.Common.{ℕ, zero, suc, ◌+◌, ◌*◌, ◌^◌, ◌<◌, ◌≤◌, ◌≡◌, Bool, true, false, List, ◌∷◌, length, get_or, take, sym, ap, subst, ◌∙◌, arith, inl, inr}
 use Rattle.std.specs.declared.cmp.Ordering.{Ordering}
 use Rattle.std.specs.Ordering.{is_eq, is_lt}
@@ -17,7 +17,7 @@ use Rattle.chained_heap.proofs.Orders.{eq_trans}
 use Rattle.chained_heap.proofs.Takes.{detach, retest}
 
 -- the rows at x that were the root's so far are taken
-pub record Turned {M : Type 0} (cmp : M → M → Ordering) (x : M) (nodes : List (Node M)) (len : ℕ) (next : List ℕ) (places : List (Place M)) (taken : ℕ) (old : List (Place M)) : Type 0 where
+pub record AfterTake {M : Type 0} (cmp : M → M → Ordering) (x : M) (nodes : List (Node M)) (len : ℕ) (next : List ℕ) (places : List (Place M)) (taken : ℕ) (old : List (Place M)) : Type 0 where
   pub within : len ≤ length nodes
   pub long : length nodes ≡ length places
   pub kept : length places ≡ length old
@@ -27,8 +27,8 @@ pub record Turned {M : Type 0} (cmp : M → M → Ordering) (x : M) (nodes : Lis
   pub may : (r : ℕ) → MayTake (is_at cmp x) (place_at old r) (place_at places r)
 
 -- and the root is at x, so that its rows are taken next
-pub record Turn {M : Type 0} (cmp : M → M → Ordering) (x : M) (nodes : List (Node M)) (len : ℕ) (next : List ℕ) (places : List (Place M)) (taken : ℕ) (old : List (Place M)) : Type 0 where
-  pub turned : Turned cmp x nodes len next places taken old
+pub record BeforeTake {M : Type 0} (cmp : M → M → Ordering) (x : M) (nodes : List (Node M)) (len : ℕ) (next : List ℕ) (places : List (Place M)) (taken : ℕ) (old : List (Place M)) : Type 0 where
+  pub turned : AfterTake cmp x nodes len next places taken old
   pub root : (d : Node M) → is_eq (cmp (get_or nodes 0 d).mono x) ≡ true
 
 may_trans : {M : Type 0} (want : Place M → Bool) (a b c : Place M) → MayTake want a b → MayTake want b c → MayTake want a c
@@ -43,10 +43,10 @@ module _ {M : Type 0} {cmp : M → M → Ordering} (o : IsTotalOrder cmp) (x : M
   same_test y e (In m) h = eq_trans o m y x h e
   same_test y e Taken h = h
 
-  pub let_loose : (nodes new : List (Node M)) (len : ℕ) (next : List ℕ) (places : List (Place M)) (taken : ℕ) (old : List (Place M)) (root : Node M) → is_eq (cmp root.mono x) ≡ true → IsPermutation (take (len + 1) nodes) (root ∷ take len new) → Turn cmp x nodes (len + 1) next places taken old → Shape cmp (is_at cmp x) (take len new) next places root.row taken
+  pub let_loose : (nodes new : List (Node M)) (len : ℕ) (next : List ℕ) (places : List (Place M)) (taken : ℕ) (old : List (Place M)) (root : Node M) → is_eq (cmp root.mono x) ≡ true → IsPermutation (take (len + 1) nodes) (root ∷ take len new) → BeforeTake cmp x nodes (len + 1) next places taken old → Shape cmp (is_at cmp x) (take len new) next places root.row taken
   let_loose nodes new len next places taken old root e perm t = detach cmp (is_at cmp x) (take (len + 1) nodes) (take len new) root next places taken t.turned.shape perm (same_test root.mono e)
 
-  pub turned : (nodes new : List (Node M)) (len : ℕ) (next next' : List ℕ) (places places' : List (Place M)) (taken taken' : ℕ) (old : List (Place M)) (root : Node M) → IsPermutation (take (len + 1) nodes) (root ∷ take len new) → length new ≡ length nodes → IsOrdered cmp new len → Turn cmp x nodes (len + 1) next places taken old → TakesChain cmp (is_at cmp x) (take len new) places root.row next' places' no_row taken' → Turned cmp x new len next' places' taken' old
+  pub turned : (nodes new : List (Node M)) (len : ℕ) (next next' : List ℕ) (places places' : List (Place M)) (taken taken' : ℕ) (old : List (Place M)) (root : Node M) → IsPermutation (take (len + 1) nodes) (root ∷ take len new) → length new ≡ length nodes → IsOrdered cmp new len → BeforeTake cmp x nodes (len + 1) next places taken old → TakesChain cmp (is_at cmp x) (take len new) places root.row next' places' no_row taken' → AfterTake cmp x new len next' places' taken' old
   turned nodes new len next next' places places' taken taken' old root perm ln ord t c = record {
     within = omega (arith, t.turned.within);
     long = ln ∙ t.turned.long ∙ sym c.long;
@@ -57,7 +57,7 @@ module _ {M : Type 0} {cmp : M → M → Ordering} (o : IsTotalOrder cmp) (x : M
     may = λ r. may_trans (is_at cmp x) (place_at old r) (place_at places r) (place_at places' r) (t.turned.may r) (c.may r);
   }
 
-  pub closes : (nodes : List (Node M)) (len : ℕ) (next : List ℕ) (places : List (Place M)) (taken : ℕ) (old : List (Place M)) → Turned cmp x nodes len next places taken old → IsChainedHeap cmp nodes len next places taken
+  pub closes : (nodes : List (Node M)) (len : ℕ) (next : List ℕ) (places : List (Place M)) (taken : ℕ) (old : List (Place M)) → AfterTake cmp x nodes len next places taken old → IsChainedHeap cmp nodes len next places taken
   closes nodes len next places taken old t = record {
     within = t.within;
     long = t.long;

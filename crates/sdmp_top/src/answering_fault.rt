@@ -1,6 +1,6 @@
 /// Why answering stopped before its end: a write failed, or memory is wanting.
 #[derive(Clone, Copy, Debug, PartialEq, Eq, Drop)]
-pub enum Stop {
+pub enum AnsweringFault {
     WriteFault,
     NoMemory,
 }
