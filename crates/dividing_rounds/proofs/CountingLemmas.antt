@@ -13,6 +13,7 @@ use Rattle.dividing_rounds.specs.Counting.{handed_out, NotesCounted, CountStart,
 use Rattle.sdmp_laws.proofs.OrderLemmas.{Three, is_less, is_equal, is_greater, numbers, order_facts}
 use Rattle.sdmp_laws.proofs.ListLemmas.{length-row}
 use Rattle.whole_laws.proofs.NotesLemmas.{terms_in-append, terms_in-mark}
+use Rattle.dividing_rounds.proofs.WorkloadLemmas.{has_nothing}
 use Rattle.dividing_rounds.proofs.StallLemmas.{within_at}
 
 -- ---- the latest mark after one more note
@@ -108,11 +109,6 @@ count_send v paid t h one =
     }
 
 -- a mark of the same state doesn't rise
-none_has : (x : List ℕ) (A : List Term) → has x A ≡ true → A ≡ [] → ⊥
-unfolding has
-none_has x [] h e = true≢false (sym h)
-none_has x (t ∷ A) h e = absurd (cc e)
-
 never_below : (ord : Order) (x y : List ℕ) → (x ≡ y) ⊎ Below ord x y → Below ord y x → ⊥
 never_below ord x y (inl e) b = (order_facts ord).irreflexive y (subst (λ (v : List ℕ). Below ord y v) e b)
 never_below ord x y (inr c) b = (order_facts ord).irreflexive x ((order_facts ord).transitive x y x c b)
@@ -120,7 +116,7 @@ never_below ord x y (inr c) b = (order_facts ord).irreflexive x ((order_facts or
 top_once : (ord : Order) (U : List Term) (a b : Option (List ℕ)) → IsTop ord U a → IsTop ord U b → TopFalls ord a b → ⊥
 unfolding IsTop TopFalls
 top_once ord U None b i j f = f
-top_once ord U (Some x) None i j f = none_has x U i.0 j
+top_once ord U (Some x) None i j f = has_nothing x U j i.0
 top_once ord U (Some x) (Some y) i j f = never_below ord x y (within_at ord y x U j.1 i.0) f
 
 same_mark : (ord : Order) (U : List Term) (old : ℕ × Option (List ℕ)) (k : ℕ) (top : Option (List ℕ)) → old.0 ≡ k → IsTop ord U old.1 → IsTop ord U top → MarkRises ord old k top → ⊥

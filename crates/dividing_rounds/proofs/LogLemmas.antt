@@ -72,13 +72,13 @@ pub empty_log : (ord : Order) (A : List Term) → IsLog ord None A []
 unfolding Falls StaysAbove
 empty_log ord A = record { falls = tt; above = refl; among = tt }
 
-under_at : (ord : Order) (x m y : List ℕ) → Below ord x m → AtOrAbove ord m y → Below ord x y
-under_at ord x m y b (inl e) = subst (λ (v : List ℕ). Below ord x v) e b
-under_at ord x m y b (inr c) = (order_facts ord).transitive x m y b c
-
 below_all : (ord : Order) (x m : List ℕ) (log : List (List ℕ)) → Below ord x m → AllByRecursion (λ y. AtOrAbove ord m y) log → AllByRecursion (λ y. Below ord x y) log
 below_all ord x m [] b h = tt
-below_all ord x m (y ∷ log) b h = (under_at ord x m y b h.0, below_all ord x m log b h.1)
+below_all ord x m (y ∷ log) b h = (first h.0, below_all ord x m log b h.1)
+  where
+    first : AtOrAbove ord m y → Below ord x y
+    first (inl e) = subst (λ (v : List ℕ). Below ord x v) e b
+    first (inr c) = (order_facts ord).transitive x m y b c
 
 below_log : (ord : Order) (low : Option (List ℕ)) (x : List ℕ) (log : List (List ℕ)) → IsUnder ord low x → StaysAbove ord low log → AllByRecursion (λ y. Below ord x y) log
 unfolding IsUnder StaysAbove

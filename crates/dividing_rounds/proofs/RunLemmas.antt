@@ -106,15 +106,15 @@ run_row_law r h =
       },
     )
 
+either : {A B C : Type 0} → (A → C) → (B → C) → A ⊎ B → C
+either f g (inl a) = f a
+either f g (inr b) = g b
+
 -- ---- what is processed is below what was processed before, and stands in the workload
 read_below : (ord : Order) (l : List ℕ) (A : List Term) (x : List ℕ) → AllBelow ord l A → has x A ≡ true → Below ord x l
 unfolding has AllBelow
 read_below ord l [] x b h = absurd (true≢false (sym h))
-read_below ord l (t ∷ A) x b h = pick (λ k. read_below ord l A x b.1 k) (or_out (alike t.monomial x) (has x A) h)
-  where
-    pick : (has x A ≡ true → Below ord x l) → (alike t.monomial x ≡ true) ⊎ (has x A ≡ true) → Below ord x l
-    pick ih (inl e) = subst (λ (v : List ℕ). Below ord v l) (alike_same t.monomial x e) b.0
-    pick ih (inr k) = ih k
+read_below ord l (t ∷ A) x b h = either (λ e. subst (λ (v : List ℕ). Below ord v l) (alike_same t.monomial x e) b.0) (λ k. read_below ord l A x b.1 k) (or_out (alike t.monomial x) (has x A) h)
 
 under_past : (s : DivideState) (x : List ℕ) (last : Option (List ℕ)) → has x (s.unread ++ head_terms s.heads) ≡ true → IsPast s last → IsUnder s.division.ord last x
 unfolding IsPast IsUnder

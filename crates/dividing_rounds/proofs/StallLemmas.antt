@@ -21,7 +21,7 @@ use Rattle.sdmp_laws.proofs.DivisionLemmas.{below_left, length_lm}
 use Rattle.whole_laws.proofs.NotesLemmas.{has-append_left}
 use Rattle.divide_wholes.proofs.Candidate.{rows_below, rows_over, quotient_poly, script_poly}
 use Rattle.divide_wholes.proofs.MarkLemmas.{latest_mark_counts}
-use Rattle.dividing_rounds.proofs.WorkloadLemmas.{has-append_right, has-append_out, HeadAt, head_at, script_has, first_lower}
+use Rattle.dividing_rounds.proofs.WorkloadLemmas.{has-append_right, has-append_out, HeadAt, head_at, script_has, first_lower, has_nothing}
 
 -- ---- lists at or below a monomial
 within_front : (ord : Order) (m : List ℕ) (A B : List Term) → AllAtOrBelow ord m (A ++ B) → AllAtOrBelow ord m A
@@ -156,11 +156,6 @@ no_first : (A B : List Term) → A ++ B ≡ [] → (A ≡ []) × (B ≡ [])
 no_first [] B e = (refl, e)
 no_first (t ∷ A) B e = absurd (cc e)
 
-has_nothing : (x : List ℕ) (A : List Term) → A ≡ [] → has x A ≡ true → ⊥
-unfolding has
-has_nothing x [] e h = true≢false (sym h)
-has_nothing x (t ∷ A) e h = absurd (cc e)
-
 above_none : (ord : Order) (top : Option (List ℕ)) (y : List ℕ) → top ≡ None → AboveTop ord top y
 unfolding AboveTop
 above_none ord None y e = tt
@@ -219,20 +214,19 @@ due_is_bound s x a whole due =
     known (inr k) = inr (k.0, k.1.worker, ap₂ (λ (i : ℕ) (t : Option (List ℕ)). (i, t)) (due.current k.0 k.1) k.2)
 
 -- ---- what is held is below the front
-below_cancel : (ord : Order) (a b c : List ℕ) → length a ≡ length b → Below ord (a ⋅ c) (b ⋅ c) → Below ord a b
-below_cancel ord a b c l h = pick (below_total ord a b l)
-  where
-    pick : Three (Below ord a b) (a ≡ b) (Below ord b a) → Below ord a b
-    pick (is_less k) = k
-    pick (is_equal e) = absurd ((order_facts ord).irreflexive (b ⋅ c) (subst (λ (v : List ℕ). Below ord (v ⋅ c) (b ⋅ c)) e h))
-    pick (is_greater k) =
-        absurd ((order_facts ord).irreflexive (a ⋅ c) ((order_facts ord).transitive (a ⋅ c) (b ⋅ c) (a ⋅ c) h ((order_facts ord).compatible b a c (sym l) k)))
-
 pub behind : Behind
 behind d W w front top a some lf lt h =
     let low = first_lower d.ord d.n (lm d.g) (divisor_rows d.g W w) some (rows_below d W w a) (rows_over d W w a) in
     let product = below_left d.ord (lm (divisor_rows d.g W w)) (lm d.g) front (low.1 ∙ sym (length_lm d a)) low.0 in
-    below_cancel d.ord top front (lm d.g) (lt ∙ sym lf) (at_then_below d.ord (top ⋅ lm d.g) (front ⋅ lm (divisor_rows d.g W w)) (front ⋅ lm d.g) h product)
+    pick (at_then_below d.ord (top ⋅ lm d.g) (front ⋅ lm (divisor_rows d.g W w)) (front ⋅ lm d.g) h product) (below_total d.ord top front (lt ∙ sym lf))
+  where
+    never : Below d.ord (top ⋅ lm d.g) (front ⋅ lm d.g) → AtOrAbove d.ord (front ⋅ lm d.g) (top ⋅ lm d.g) → ⊥
+    never b k = (order_facts d.ord).irreflexive (front ⋅ lm d.g) (at_then_below d.ord (front ⋅ lm d.g) (top ⋅ lm d.g) (front ⋅ lm d.g) k b)
+
+    pick : Below d.ord (top ⋅ lm d.g) (front ⋅ lm d.g) → Three (Below d.ord top front) (top ≡ front) (Below d.ord front top) → Below d.ord top front
+    pick b (is_less k) = k
+    pick b (is_equal e) = absurd (never b (inl (ap (λ (v : List ℕ). v ⋅ lm d.g) (sym e))))
+    pick b (is_greater k) = absurd (never b (inr ((order_facts d.ord).compatible front top (lm d.g) (lf ∙ sym lt) k)))
 
 held_below : (d : Division) (W w : ℕ) (front : Option (List ℕ)) (top : List ℕ) → IsAccepted d → divisor_rows d.g W w ≢ [] → IfSome front (λ m. length m ≡ d.n) → length top ≡ d.n
     → IsHeld d (divisor_rows d.g W w) front (Some top) → IsUnder d.ord front top
@@ -240,9 +234,9 @@ unfolding IsHeld IsUnder
 held_below d W w None top a some lf lt h = tt
 held_below d W w (Some m) top a some lf lt h = behind d W w m top a some lf lt h
 
--- ---- the greatest of what was read and of the tops of the first k workers
-record Highest (s : DivideState) (k : ℕ) (x : List ℕ) : Type 0 where
-  read : AllAtOrBelow s.division.ord x (s.unread ++ head_terms s.heads)
+-- ---- the greatest of the monomial `first` and of the tops of the first k workers
+record Highest (s : DivideState) (first : List ℕ) (k : ℕ) (x : List ℕ) : Type 0 where
+  risen : AtOrAbove s.division.ord first x
   tops : (w : ℕ) → w < k → IsAsked s w → TopWithin s.division.ord x (mark_of s w).1
   by : ℕ
   asked : IsAsked s by
@@ -264,8 +258,8 @@ within_none ord x None e = tt
 within_none ord x (Some u) e = absurd (cc e)
 
 -- one worker more, whose top is x or below where it is asked
-next_within : (s : DivideState) (k : ℕ) (x : List ℕ) → (IsAsked s k → TopWithin s.division.ord x (mark_of s k).1) → Highest s k x → Highest s (suc k) x
-next_within s k x here h = record { read = h.read; tops = tops; by = h.by; asked = h.asked; top = h.top }
+next_within : (s : DivideState) (first : List ℕ) (k : ℕ) (x : List ℕ) → (IsAsked s k → TopWithin s.division.ord x (mark_of s k).1) → Highest s first k x → Highest s first (suc k) x
+next_within s first k x here h = record { risen = h.risen; tops = tops; by = h.by; asked = h.asked; top = h.top }
   where
     tops : (w : ℕ) → w < suc k → IsAsked s w → TopWithin s.division.ord x (mark_of s w).1
     tops w l asked = pick (numbers w k)
@@ -276,33 +270,33 @@ next_within s k x here h = record { read = h.read; tops = tops; by = h.by; asked
         pick (is_greater b) = absurd (omega (arith, b, l))
 
 -- or above it
-next_above : (s : DivideState) (k : ℕ) (x t : List ℕ) → IsAsked s k → (mark_of s k).1 ≡ Some t → Below s.division.ord x t → Highest s k x → Highest s (suc k) t
-next_above s k x t asked e b h =
-    next_within s k t (λ _. within_one s.division.ord t t (mark_of s k).1 e (inl refl))
+next_above : (s : DivideState) (first : List ℕ) (k : ℕ) (x t : List ℕ) → IsAsked s k → (mark_of s k).1 ≡ Some t → Below s.division.ord x t → Highest s first k x → Highest s first (suc k) t
+next_above s first k x t asked e b h =
+    next_within s first k t (λ _. within_one s.division.ord t t (mark_of s k).1 e (inl refl))
     (record {
-      read = within_up s.division.ord x t (s.unread ++ head_terms s.heads) h.read (inr b);
+      risen = at_then_at s.division.ord first x t h.risen (inr b);
       tops = λ w l i. top_up s.division.ord x t (mark_of s w).1 (h.tops w l i) (inr b);
       by = k;
       asked = asked;
       top = e;
     })
 
-climb : (s : DivideState) (k : ℕ) (x : List ℕ) → IsAccepted s.division → DivideWhole s → k ≤ s.workers → Highest s 0 x → (y : List ℕ) × Highest s k y
+climb : (s : DivideState) (k : ℕ) (x : List ℕ) → IsAccepted s.division → DivideWhole s → k ≤ s.workers → Highest s x 0 x → (y : List ℕ) × Highest s x k y
 climb s zero x a whole l h = (x, h)
 climb s (suc k) x a whole l h = step (climb s k x a whole (omega (arith, l)) h)
   where
-    step : (y : List ℕ) × Highest s k y → (y : List ℕ) × Highest s (suc k) y
+    step : (y : List ℕ) × Highest s x k y → (y : List ℕ) × Highest s x (suc k) y
     step p = ask (head_of_worker s.heads k) refl (rows_or_none (divisor_rows s.division.g s.workers k)) (mark_of s k).1 refl
       where
-        compare_with : (t : List ℕ) → IsAsked s k → (mark_of s k).1 ≡ Some t → Three (Below s.division.ord t p.0) (t ≡ p.0) (Below s.division.ord p.0 t) → (y : List ℕ) × Highest s (suc k) y
-        compare_with t asked e (is_less b) = (p.0, next_within s k p.0 (λ _. within_one s.division.ord p.0 t (mark_of s k).1 e (inr b)) p.1)
-        compare_with t asked e (is_equal q) = (p.0, next_within s k p.0 (λ _. within_one s.division.ord p.0 t (mark_of s k).1 e (inl q)) p.1)
-        compare_with t asked e (is_greater b) = (t, next_above s k p.0 t asked e b p.1)
+        compare_with : (t : List ℕ) → IsAsked s k → (mark_of s k).1 ≡ Some t → Three (Below s.division.ord t p.0) (t ≡ p.0) (Below s.division.ord p.0 t) → (y : List ℕ) × Highest s x (suc k) y
+        compare_with t asked e (is_less b) = (p.0, next_within s x k p.0 (λ _. within_one s.division.ord p.0 t (mark_of s k).1 e (inr b)) p.1)
+        compare_with t asked e (is_equal q) = (p.0, next_within s x k p.0 (λ _. within_one s.division.ord p.0 t (mark_of s k).1 e (inl q)) p.1)
+        compare_with t asked e (is_greater b) = (t, next_above s x k p.0 t asked e b p.1)
 
-        ask : (o : Option Term) → head_of_worker s.heads k ≡ o → (divisor_rows s.division.g s.workers k ≡ []) ⊎ (divisor_rows s.division.g s.workers k ≢ []) → (top : Option (List ℕ)) → (mark_of s k).1 ≡ top → (y : List ℕ) × Highest s (suc k) y
-        ask (Some t) e r top i = (p.0, next_within s k p.0 (λ asked. absurd (cc (sym e ∙ asked.no_head))) p.1)
-        ask None e (inl r) top i = (p.0, next_within s k p.0 (λ asked. absurd (asked.rows r)) p.1)
-        ask None e (inr r) None i = (p.0, next_within s k p.0 (λ _. within_none s.division.ord p.0 (mark_of s k).1 i) p.1)
+        ask : (o : Option Term) → head_of_worker s.heads k ≡ o → (divisor_rows s.division.g s.workers k ≡ []) ⊎ (divisor_rows s.division.g s.workers k ≢ []) → (top : Option (List ℕ)) → (mark_of s k).1 ≡ top → (y : List ℕ) × Highest s x (suc k) y
+        ask (Some t) e r top i = (p.0, next_within s x k p.0 (λ asked. absurd (cc (sym e ∙ asked.no_head))) p.1)
+        ask None e (inl r) top i = (p.0, next_within s x k p.0 (λ asked. absurd (asked.rows r)) p.1)
+        ask None e (inr r) None i = (p.0, next_within s x k p.0 (λ _. within_none s.division.ord p.0 (mark_of s k).1 i) p.1)
         ask None e (inr r) (Some t) i =
             let here : k < s.workers = omega (arith, l) in
             let asked : IsAsked s k = record { worker = here; no_head = e; rows = r } in
@@ -342,17 +336,17 @@ no_stall r m w a h read waited stuck = due (climb s s.workers first.0 a h.whole 
     first : (x : List ℕ) × ((mark_of r.state w).1 ≡ Some x) × AllAtOrBelow r.state.division.ord x (r.state.unread ++ head_terms r.state.heads)
     first = not_low r.state m w a h.whole read stuck.asked.worker (λ low. stuck.waits (waited w stuck.asked).current low)
 
-    start : Highest r.state 0 first.0
-    start = record { read = first.2; tops = λ v l i. absurd (omega (arith, l)); by = w; asked = stuck.asked; top = first.1 }
+    start : Highest r.state first.0 0 first.0
+    start = record { risen = inl refl; tops = λ v l i. absurd (omega (arith, l)); by = w; asked = stuck.asked; top = first.1 }
 
-    due : (y : List ℕ) × Highest r.state r.state.workers y → (x : List ℕ) × IsDue r.state x
+    due : (y : List ℕ) × Highest r.state first.0 r.state.workers y → (x : List ℕ) × IsDue r.state x
     due p =
         let k = p.1 in
         let held = subst (λ (t : Option (List ℕ)). IsHeld r.state.division (divisor_rows r.state.division.g r.state.workers k.by) r.state.front t) k.top (waited k.by k.asked).held in (
           p.0,
           record {
             current = λ v i. (waited v i).current;
-            read_below = k.read;
+            read_below = within_up r.state.division.ord first.0 p.0 (r.state.unread ++ head_terms r.state.heads) first.2 k.risen;
             tops_below = λ v i. k.tops v i.worker i;
             reached = inr (k.by, k.asked, k.top);
             lower = held_below r.state.division r.state.workers k.by r.state.front p.0 a k.asked.rows h.front_vector (top_vector r.state k.by p.0 a h.whole k.asked.worker k.top) held;

@@ -1,10 +1,10 @@
 -- A bound of a division's merge stands in its workload.
-use Rattle.std.proofs.Common.{◌≡◌, ◌≢◌, ℕ, suc, ◌<◌, ◌≤◌, ◌⊎◌, inl, inr, Bool, true, false, ◌||◌, cond, eqb, ◌%◌, List, [], ◌∷◌, ◌++◌, length, take, Option, Some, None, ℤ, pos, refl, sym, ap, ◌∙◌, subst, arith, true≢false, append-nil, append_assoc}
+use Rattle.std.proofs.Common.{◌≡◌, ◌≢◌, ℕ, suc, ◌<◌, ◌≤◌, ◌⊎◌, inl, inr, Bool, true, false, ◌||◌, cond, eqb, ◌%◌, List, [], ◌∷◌, ◌++◌, length, take, Option, Some, None, ℤ, pos, ◌*ℤ◌, refl, sym, ap, ◌∙◌, subst, arith, true≢false, append-nil, append_assoc}
 use Rattle.std.proofs.lemmas.List.{take-append-le}
 use Rattle.std.proofs.Math.Seq.{take-length}
 use Rattle.sdmp_laws.specs.Order.{Order, ◌⋅◌, Divides, alike, Below}
-use Rattle.sdmp_laws.specs.Ring.{red}
-use Rattle.sdmp_laws.specs.Poly.{Term, total, coef, term_times, row, times, minus, Over, AllBelow, IsPoly, terms, every, lm}
+use Rattle.sdmp_laws.specs.Ring.{red, IsReduced}
+use Rattle.sdmp_laws.specs.Poly.{Term, total, coef, term_times, row, times, minus, Over, AllBelow, IsPoly, terms, every, lm, lc}
 use Rattle.sdmp_laws.specs.Division.{Division, IsAccepted, InScope, AtOrAbove, Turn, Turns}
 use Rattle.sdmp_laws.specs.LongDivision.{quotient_list}
 use Rattle.whole_laws.specs.Notes.{QuotientScript, after_lead, divisor_rows, script_list, terms_in, has, IsProductMonomial, TopIsProduct}
@@ -166,9 +166,11 @@ first_lower ord n l (t ∷ R) s b o = (b.0, o.0)
 script_none : (d : Division) (W w : ℕ) → divisor_rows d.g W w ≡ [] → script_list (QuotientScript d W w) ≡ []
 script_none d W w e = sym (all_of_it (QuotientScript d W w)) ∙ no_rows_owe d W w [] e
 
-has_none : (m : List ℕ) → has m [] ≡ true → ⊥
+-- the empty list has no monomial
+pub has_nothing : (x : List ℕ) (A : List Term) → A ≡ [] → has x A ≡ true → ⊥
 unfolding has
-has_none m h = true≢false (sym h)
+has_nothing x [] e h = true≢false (sym h)
+has_nothing x (t ∷ A) e h = absurd (cc e)
 
 -- ---- a bound where a head stands
 -- where no later quotient term is above x, and a worker's list has a term at x, a product of q and its rows stands there
@@ -178,7 +180,7 @@ unfolding coef IsBeyond script_list
 product_at d W w q later x a e l u h = pick (has x (times q (divisor_rows d.g W w))) refl
   where
     some : divisor_rows d.g W w ≢ []
-    some k = has_none x (subst (λ (L : List Term). has x L ≡ true) (script_none d W w k) h)
+    some k = has_nothing x (script_list (QuotientScript d W w)) (script_none d W w k) h
 
     low : Below d.ord (lm (divisor_rows d.g W w)) (lm d.g) × (length (lm (divisor_rows d.g W w)) ≡ d.n)
     low = first_lower d.ord d.n (lm d.g) (divisor_rows d.g W w) some (rows_below d W w a) (rows_over d W w a)
@@ -229,11 +231,16 @@ turn_after : (d : Division) (q A : List Term) (t : Term) → IsAccepted d → q 
 unfolding Turns
 turn_after d q A t a e = (Turns-after d d.f q (t ∷ A) (subst (λ (L : List Term). Turns d d.f L) (sym e) (quotient_list_is d a).turns)).0
 
-first_under : (d : Division) (x : List ℕ) (t : Term) (A : List Term) → AllUnderFront d (Some x) (t ∷ A) → AtOrAbove d.ord (t.monomial ⋅ lm d.g) x
-unfolding AllUnderFront
-first_under d x t A h = h.0
+-- a later term stands at x or below, and neither is possible: at x its coefficient fits, and below x there is one that a turn leaves above it
+none_later : (d : Division) (q A : List Term) (t : Term) (x : List ℕ) (c : ℤ) → IsAccepted d → q ++ t ∷ A ≡ quotient_list d → length x ≡ d.n → InScope d.mode (lm d.g) x → coef d.p (minus d.f (times q d.g)) x ≡ c → (c ≢ pos 0)
+    → (Divides (lm d.g) x → IsReduced d.p t.coefficient → red d.p (t.coefficient *ℤ lc d.g) ≡ c → ⊥) → AtOrAbove d.ord (t.monomial ⋅ lm d.g) x → ⊥
+none_later d q A t x c a e l scope here z none (inl k) =
+    let u = turn_after d q A t a e in
+    none (subst (λ (y : List ℕ). Divides (lm d.g) y) k (divides_times t.monomial (lm d.g) (u.vector ∙ sym (length_lm d a)))) u.reduced (u.fits ∙ ap (coef d.p (minus d.f (times q d.g))) k ∙ here)
+none_later d q A t x c a e l scope here z none (inr b) = z (sym here ∙ (turn_after d q A t a e).top x l scope b)
 
 pub candidate_last : CandidateLast
+unfolding AllUnderFront
 candidate_last s x a whole c mode z none = pick (whole.quotient).0 (whole.quotient).1
   where
     scope : (m : List ℕ) → InScope s.division.mode (lm s.division.g) m
@@ -244,19 +251,6 @@ candidate_last s x a whole c mode z none = pick (whole.quotient).0 (whole.quotie
 
     pick : (later : List Term) → s.q ++ later ≡ quotient_list s.division → s.q ≡ quotient_list s.division
     pick [] e = sym (append-nil s.q) ∙ e
-    pick (t ∷ A) e = absurd (at (first_under s.division x t A ((candidate_final s x a whole c).0 (t ∷ A) e)))
-      where
-        u : Turn s.division (minus s.division.f (times s.q s.division.g)) t
-        u = turn_after s.division s.q A t a e
-
-        lg : length t.monomial ≡ length (lm s.division.g)
-        lg = u.vector ∙ sym (length_lm s.division a)
-
-        at : AtOrAbove s.division.ord (t.monomial ⋅ lm s.division.g) x → ⊥
-        at (inl k) =
-            none t.coefficient (record {
-              divides = subst (λ (y : List ℕ). Divides (lm s.division.g) y) k (divides_times t.monomial (lm s.division.g) lg);
-              reduced = u.reduced;
-              product = u.fits ∙ ap (coef s.division.p (minus s.division.f (times s.q s.division.g))) k ∙ here;
-            })
-        at (inr b) = z (sym here ∙ u.top x c.vector (scope x) b)
+    pick (t ∷ A) e =
+        absurd (none_later s.division s.q A t x (read_coef s x) a e c.vector (scope x) here z (λ v r f. none t.coefficient (record { divides = v; reduced = r; product = f }))
+        ((candidate_final s x a whole c).0 (t ∷ A) e).0)
