@@ -9,7 +9,7 @@ use Rattle.whole_laws.specs.Notes.{Note, TermNote, MarkNote, EndNote, TopFalls, 
 use Rattle.whole_laws.specs.Wholes.{notes_of}
 use Rattle.divide_wholes.specs.Wholes.{DivideState, mark_after, latest_mark}
 use Rattle.divide_wholes.specs.Workers.{WorkerState, IsTop, MarkRises, worker_rows, sum_at}
-use Rattle.dividing_rounds.specs.Counting.{handed_out, NotesCounted, CountStart, CountLearn, CountHand, CountSend, CountMark, NotesFit, CountedFit}
+use Rattle.dividing_rounds.specs.Counting.{handed_out, NotesCounted, CountStart, CountLearn, CountHand, CountSend, CountMark, CountedSent, NotesFit, CountedFit}
 use Rattle.sdmp_laws.proofs.OrderLemmas.{Three, is_less, is_equal, is_greater, numbers, order_facts}
 use Rattle.sdmp_laws.proofs.ListLemmas.{length-row}
 use Rattle.whole_laws.proofs.NotesLemmas.{terms_in-append, terms_in-mark}
@@ -146,15 +146,21 @@ count_mark v paid top h i rises =
     fewer (is_equal e) = let u = h.unchanged e in absurd (same_mark v.division.ord v.unread (latest_mark v.sent) (length v.known) top u.0 u.1 i rises)
     fewer (is_greater b) = absurd (let before = h.paid_before in omega (arith, before, b))
 
--- ---- what the merge takes
+-- ---- what is sent, and what the merge takes
+pub counted_sent : CountedSent
+unfolding handed_out
+counted_sent v paid h =
+    let terms = h.terms in
+    let marks = h.marks in
+    let before = h.paid_before in
+    omega (arith, terms, marks, before)
+
 pub counted_fit : CountedFit
-unfolding handed_out worker_rows
+unfolding worker_rows
 counted_fit s v paid ed ew h i l =
     let rows : length (worker_rows v) ≡ length (divisor_rows s.division.g s.workers v.worker) = ap₂ (λ (d : Division) (W : ℕ). length (divisor_rows d.g W v.worker)) ed ew in
     let taken = sym (length-append (notes_of s.taken v.worker) i.0) ∙ ap length i.1 in
     let products = mul-le-mul_right (length (worker_rows v)) l in
     let there = ap (λ (k : ℕ). length s.q * k) rows in
-    let terms = h.terms in
-    let marks = h.marks in
-    let before = h.paid_before in
-    omega (arith, taken, products, there, terms, marks, before, l)
+    let sent = counted_sent v paid h in
+    omega (arith, taken, products, there, sent, l)

@@ -4,3 +4,4 @@ pub mod RunLemmas
 pub mod StallLemmas
 pub mod CountingLemmas
 pub mod RoundLemmas
+mod Examples

@@ -141,12 +141,13 @@ progress_fits r some h fits =
     let c = counts_fit r h in
     within_bound s.workers (length s.q) (length s.division.g - 1) (length s.division.f) (sum_by (λ notes. length notes) s.taken) r.processed_count r.fronts_count (notes_at_most r some h fits) c.0 c.1
 
-within_word : (W q tail f notes a b : ℕ) → W ≤ 64 → q < 2 ^ 30 → tail < 2 ^ 30 → f < 2 ^ 30 → notes ≤ W * q + 2 * (q * tail) → a ≤ f + q * tail → b ≤ f + q * tail → notes + q + b + a < 2 ^ 63
+within_word : (W q tail f notes a b : ℕ) → W < 2 ^ 32 → q < 2 ^ 30 → tail < 2 ^ 30 → f < 2 ^ 30 → notes ≤ W * q + 2 * (q * tail) → a ≤ f + q * tail → b ≤ f + q * tail → notes + q + b + a < 2 ^ 64
 within_word W q tail f notes a b w lq lt lf n i j =
+    let team : W ≤ 2 ^ 32 = omega arith in
     let few : q ≤ 2 ^ 30 = omega arith in
     let short : tail ≤ 2 ^ 30 = omega arith in
     let p : q * tail ≤ 2 ^ 30 * 2 ^ 30 = mul-le-mul few short in
-    let m : W * q ≤ 64 * 2 ^ 30 = mul-le-mul w few in
+    let m : W * q ≤ 2 ^ 32 * 2 ^ 30 = mul-le-mul team few in
     omega arith
 
 pub progress_small : ProgressSmall
