@@ -1,15 +1,15 @@
 -- A dividing worker counts its notes.
-use Rattle.std.proofs.Common.{◌≡◌, ◌≢◌, ℕ, ℤ, zero, suc, ◌+◌, ◌-◌, ◌*◌, ◌<◌, ◌≤◌, ◌⊎◌, inl, inr, Bool, true, false, cond, List, [], ◌∷◌, ◌++◌, length, Option, Some, None, IsPermutation, refl, sym, ap, ap₂, ◌∙◌, subst, arith, true≢false, length-append}
+use Rattle.std.proofs.Common.{◌≡◌, ◌≢◌, ℕ, ℤ, ◌+◌, ◌-◌, ◌*◌, ◌<◌, ◌≤◌, ◌⊎◌, inl, inr, Bool, true, false, cond, List, [], ◌∷◌, ◌++◌, length, Option, Some, None, refl, sym, ap, ap₂, ◌∙◌, subst, arith, length-append}
 use Rattle.std.proofs.Math.Nat.{mul-le-mul_right}
 use Rattle.std.proofs.lemmas.List.Sorted.{length_permutation}
 use Rattle.sdmp_laws.specs.Order.{Order, Below}
 use Rattle.sdmp_laws.specs.Poly.{Term, row, is_zero}
 use Rattle.sdmp_laws.specs.Division.{Division}
-use Rattle.whole_laws.specs.Notes.{Note, TermNote, MarkNote, EndNote, TopFalls, divisor_rows, terms_in, has}
+use Rattle.whole_laws.specs.Notes.{Note, TermNote, MarkNote, EndNote, TopFalls, divisor_rows, terms_in}
 use Rattle.whole_laws.specs.Wholes.{notes_of}
-use Rattle.divide_wholes.specs.Wholes.{DivideState, mark_after, latest_mark}
-use Rattle.divide_wholes.specs.Workers.{WorkerState, IsTop, MarkRises, worker_rows, sum_at}
-use Rattle.dividing_rounds.specs.Counting.{handed_out, NotesCounted, CountStart, CountLearn, CountHand, CountSend, CountMark, CountedSent, NotesFit, CountedFit}
+use Rattle.divide_wholes.specs.Wholes.{mark_after, latest_mark}
+use Rattle.divide_wholes.specs.Workers.{IsTop, MarkRises, worker_rows, sum_at}
+use Rattle.dividing_rounds.specs.Counting.{handed_out, CountStart, CountLearn, CountHand, CountSend, CountMark, CountedSent, CountedFit}
 use Rattle.sdmp_laws.proofs.OrderLemmas.{Three, is_less, is_equal, is_greater, numbers, order_facts}
 use Rattle.sdmp_laws.proofs.ListLemmas.{length-row}
 use Rattle.whole_laws.proofs.NotesLemmas.{terms_in-append, terms_in-mark}

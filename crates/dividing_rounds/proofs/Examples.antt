@@ -1,9 +1,9 @@
 -- What the laws say of x^2*y^2-1 divided by x*y-1 by two workers, where the quotient term x*y is found and x*y, its product with the divisor's second term, waits with the second worker.
-use Rattle.std.proofs.Common.{◌≡◌, ◌≢◌, ℕ, zero, suc, ◌<◌, inl, inr, true, ℤ, pos, negsuc, List, [], ◌∷◌, length, Option, Some, None, refl, arith}
-use Rattle.sdmp_laws.specs.Order.{Grlex, ◌⋅◌, Below, TieBelow, LexBelow, IsUnder, degree, alike}
+use Rattle.std.proofs.Common.{◌≡◌, ℕ, zero, suc, inl, inr, true, ℤ, pos, negsuc, [], ◌∷◌, Some, None, refl, arith}
+use Rattle.sdmp_laws.specs.Order.{Grlex, ◌⋅◌, Below, IsUnder, degree, alike}
 use Rattle.sdmp_laws.specs.Poly.{Term, every, row, times, term_times, lm}
 use Rattle.sdmp_laws.specs.Division.{Division, AllAtOrBelow}
-use Rattle.whole_laws.specs.Notes.{Note, MarkNote, AboveTop, divisor_rows, after_lead, has}
+use Rattle.whole_laws.specs.Notes.{MarkNote, AboveTop, divisor_rows, after_lead, has}
 use Rattle.whole_laws.specs.Wholes.{head_terms, notes_of, head_of_worker}
 use Rattle.divide_wholes.specs.Wholes.{DivideState, mark_after, latest_mark}
 use Rattle.dividing_rounds.specs.Runs.{workload, workload_count}

@@ -1,14 +1,13 @@
 -- How much a run of a division does at most.
-use Rattle.std.proofs.Common.{◌≡◌, ℕ, zero, suc, ◌+◌, ◌-◌, ◌*◌, ◌%◌, ◌^◌, ◌<◌, ◌≤◌, ◌⊎◌, inl, inr, Bool, true, false, cond, eqb, ltb, sum_by, List, [], ◌∷◌, ◌++◌, length, get_or, set, Option, Some, None, refl, sym, ap, ap₂, ◌∙◌, subst, arith, length-append, le-ltb, lt-ltb, eq-eqb, ne_eqb, lt_irrefl, mod-lt}
+use Rattle.std.proofs.Common.{◌≡◌, ℕ, zero, suc, ◌+◌, ◌-◌, ◌*◌, ◌%◌, ◌^◌, ◌<◌, ◌≤◌, inr, Bool, true, false, cond, eqb, ltb, sum_by, List, [], ◌∷◌, ◌++◌, length, get_or, set, refl, ap, ◌∙◌, subst, arith, length-append, le-ltb, lt-ltb, eq-eqb, ne_eqb, lt_irrefl, mod-lt}
 use Rattle.std.proofs.Math.Nat.{mul-le-mul}
 use Rattle.std.proofs.lemmas.List.Sums.{sum_by-set, sum_by-cons}
 use Rattle.sdmp_laws.specs.Poly.{Term, every}
 use Rattle.sdmp_laws.specs.Division.{Division}
-use Rattle.sdmp_laws.specs.LongDivision.{quotient_list}
-use Rattle.sdmp_laws.specs.Limits.{PassesBound, quotient_terms_limit}
+use Rattle.sdmp_laws.specs.Limits.{quotient_terms_limit}
 use Rattle.whole_laws.specs.Notes.{Note, TermNote, MarkNote, EndNote, after_lead, divisor_rows}
 use Rattle.whole_laws.specs.Wholes.{notes_of}
-use Rattle.divide_wholes.specs.Wholes.{DivideState, divide_take, processed, found, kept}
+use Rattle.divide_wholes.specs.Wholes.{divide_take, processed, found, kept}
 use Rattle.divide_wholes.specs.MergeRow.{with_new_row}
 use Rattle.dividing_rounds.specs.Runs.{DivideRun, RunWhole, workload_count, run_take, run_zero, run_rest, run_found, run_front, run_row}
 use Rattle.dividing_rounds.specs.Counting.{NotesFit}

@@ -1,17 +1,14 @@
 -- A run of a division stays whole at each step.
-use Rattle.std.proofs.Common.{◌≡◌, ◌≢◌, ℕ, ◌+◌, ◌⊎◌, inl, inr, true, List, [], ◌∷◌, ◌++◌, length, Option, Some, None, ℤ, refl, sym, ap, ◌∙◌, subst, arith, append_assoc, true≢false}
-use Rattle.std.specs.Prelude.{IfSome}
-use Rattle.sdmp_laws.specs.Order.{Order, ◌⋅◌, alike, over, Below, IsUnder}
+use Rattle.std.proofs.Common.{◌≡◌, ℕ, ◌⊎◌, inl, inr, true, List, [], ◌∷◌, ◌++◌, length, Option, Some, None, ℤ, refl, sym, ap, ◌∙◌, subst, arith, append_assoc, true≢false}
+use Rattle.sdmp_laws.specs.Order.{Order, ◌⋅◌, alike, Below, IsUnder}
 use Rattle.sdmp_laws.specs.Poly.{Term, AllBelow, lm}
 use Rattle.sdmp_laws.specs.Division.{Division, IsAccepted, AtOrAbove}
-use Rattle.sdmp_laws.specs.LongDivision.{quotient_list}
-use Rattle.sdmp_laws.specs.Limits.{PassesBound}
-use Rattle.whole_laws.specs.Notes.{Note, TermNote, MarkNote, EndNote, has}
+use Rattle.whole_laws.specs.Notes.{TermNote, MarkNote, EndNote, has}
 use Rattle.whole_laws.specs.Wholes.{head_terms}
-use Rattle.divide_wholes.specs.Wholes.{DivideState, DivideWhole, IsPast, IsBound, AllUnderFront, divide_start, divide_take, processed, found, kept}
+use Rattle.divide_wholes.specs.Wholes.{DivideState, DivideWhole, IsPast, AllUnderFront, divide_start, divide_take, processed, found, kept}
 use Rattle.divide_wholes.specs.Row.{RowTerm, RowMayFollow}
 use Rattle.divide_wholes.specs.MergeRow.{with_new_row}
-use Rattle.dividing_rounds.specs.Found.{read_coef, term_at, Fits, IsNext, IsQuotientAt}
+use Rattle.dividing_rounds.specs.Found.{term_at, IsNext, IsQuotientAt}
 use Rattle.dividing_rounds.specs.Runs.{DivideRun, RunWhole, IsKnownAt, workload, run_start, run_take, run_zero, run_rest, run_found, run_front, run_row, run_over, RunStart, RunTake, RunZero, RunRest, RunFound, RunFront, RunRow}
 use Rattle.dividing_rounds.specs.Stalls.{IsLowered}
 use Rattle.sdmp_laws.proofs.OrderLemmas.{alike_same}

@@ -1,5 +1,5 @@
 -- Where all workers have said what they can, the merge of a division goes on.
-use Rattle.std.proofs.Common.{◌≡◌, ◌≢◌, ℕ, zero, suc, ◌+◌, ◌-◌, ◌<◌, ◌≤◌, ◌⊎◌, inl, inr, Bool, true, false, ◌||◌, List, [], ◌∷◌, ◌++◌, length, take, drop, get_or, Option, Some, None, refl, sym, ap, ap₂, ◌∙◌, subst, subst₂, arith, true≢false, append-nil}
+use Rattle.std.proofs.Common.{◌≡◌, ◌≢◌, ℕ, zero, suc, ◌<◌, ◌≤◌, ◌⊎◌, inl, inr, Bool, true, false, ◌||◌, List, [], ◌∷◌, ◌++◌, length, take, drop, get_or, Option, Some, None, refl, sym, ap, ap₂, ◌∙◌, subst, subst₂, arith, true≢false}
 use Rattle.std.specs.Prelude.{IfSome}
 use Rattle.std.proofs.lemmas.List.{take-append-drop, length-drop}
 use native.Mathlib.Decide.{ℕ_discrete}
@@ -9,11 +9,11 @@ use Rattle.sdmp_laws.specs.Division.{Division, IsAccepted, AllAtOrBelow, AtOrAbo
 use Rattle.sdmp_laws.specs.LongDivision.{quotient_list}
 use Rattle.whole_laws.specs.Notes.{AboveTop, TopIsProduct, IsProductMonomial, QuotientScript, divisor_rows, script_list, has}
 use Rattle.whole_laws.specs.Wholes.{head_terms, notes_of, head_of_worker}
-use Rattle.divide_wholes.specs.Wholes.{DivideState, DivideWhole, IsSettled, IsCandidate, IsBound, IsFinished, divide_script, latest_mark}
+use Rattle.divide_wholes.specs.Wholes.{DivideState, DivideWhole, IsSettled, divide_script, latest_mark}
 use Rattle.divide_wholes.specs.Row.{RowNote, row_terms, front_after}
-use Rattle.divide_wholes.specs.Workers.{WorkerState, IsTop, worker_rows}
-use Rattle.dividing_rounds.specs.Runs.{DivideRun, RunWhole, IsKnownAt}
-use Rattle.dividing_rounds.specs.Stalls.{mark_of, IsGreatestRead, IsAsked, IsCurrent, IsLow, IsStuck, GoesOn, NobodyStuck, TopWithin, IsDue, DueIsBound, Behind, IsHeld, HasWaited, NoStall, IsLowered, IsHeard, HeardHasWaited}
+use Rattle.divide_wholes.specs.Workers.{IsTop, worker_rows}
+use Rattle.dividing_rounds.specs.Runs.{IsKnownAt}
+use Rattle.dividing_rounds.specs.Stalls.{mark_of, IsGreatestRead, IsAsked, IsCurrent, IsLow, IsStuck, GoesOn, NobodyStuck, TopWithin, IsDue, DueIsBound, Behind, IsHeld, NoStall, IsLowered, HeardHasWaited}
 use Rattle.sdmp_laws.proofs.OrderLemmas.{Three, is_less, is_equal, is_greater, numbers, below_total, order_facts, length_times, alike_same, alike_self}
 use Rattle.sdmp_laws.proofs.Tests.{or_out, or_in_left, or_in_right, below_yes, below_known}
 use Rattle.sdmp_laws.proofs.NextTerm.{at_then_below, at_then_at}

@@ -1,5 +1,5 @@
 -- A bound of a division's merge stands in its workload.
-use Rattle.std.proofs.Common.{◌≡◌, ◌≢◌, ℕ, suc, ◌<◌, ◌≤◌, ◌⊎◌, inl, inr, Bool, true, false, ◌||◌, cond, eqb, ◌%◌, List, [], ◌∷◌, ◌++◌, length, take, Option, Some, None, ℤ, pos, ◌*ℤ◌, refl, sym, ap, ◌∙◌, subst, arith, true≢false, append-nil, append_assoc}
+use Rattle.std.proofs.Common.{◌≡◌, ◌≢◌, ℕ, suc, ◌<◌, ◌⊎◌, inl, inr, Bool, true, false, ◌||◌, cond, eqb, ◌%◌, List, [], ◌∷◌, ◌++◌, length, take, Option, Some, None, ℤ, pos, ◌*ℤ◌, refl, sym, ap, ◌∙◌, subst, arith, true≢false, append-nil}
 use Rattle.std.proofs.lemmas.List.{take-append-le}
 use Rattle.std.proofs.Math.Seq.{take-length}
 use Rattle.sdmp_laws.specs.Order.{Order, ◌⋅◌, Divides, alike, Below}
@@ -10,13 +10,12 @@ use Rattle.sdmp_laws.specs.LongDivision.{quotient_list}
 use Rattle.whole_laws.specs.Notes.{QuotientScript, after_lead, divisor_rows, script_list, terms_in, has, IsProductMonomial, TopIsProduct}
 use Rattle.whole_laws.specs.Wholes.{head_terms, IsHead, notes_of, head_of_worker}
 use Rattle.divide_wholes.specs.Wholes.{DivideState, DivideWhole, divide_script, latest_mark, AllUnderFront, IsBeyond, IsBound}
-use Rattle.dividing_rounds.specs.Found.{read_coef, Fits, CandidateLast}
+use Rattle.dividing_rounds.specs.Found.{read_coef, CandidateLast}
 use Rattle.dividing_rounds.specs.Runs.{workload, IsKnownAt, BoundInWorkload}
 use Rattle.sdmp_laws.specs.declared.Mode.{Mode}
-use Rattle.sdmp_laws.specs.declared.Mode.TheVariants.{Exact}
 use Rattle.sdmp_laws.proofs.OrderLemmas.{alike_self, alike_same}
 use Rattle.sdmp_laws.proofs.Tests.{or_out, or_in_left, or_in_right}
-use Rattle.sdmp_laws.proofs.PolyLemmas.{same_total, times_append_left}
+use Rattle.sdmp_laws.proofs.PolyLemmas.{same_total}
 use Rattle.sdmp_laws.proofs.TermsLemmas.{total_other, tail_poly, head_facts, coef_head, terms_same}
 use Rattle.sdmp_laws.proofs.DivisionLemmas.{below_left, length_lm, divides_times, Turns-after}
 use Rattle.sdmp_laws.proofs.LongLemmas.{quotient_list_is, all_in_scope}

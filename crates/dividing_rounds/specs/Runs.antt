@@ -10,7 +10,7 @@ use Rattle.whole_laws.specs.Wholes.{head_terms, notes_of, head_of_worker}
 use Rattle.divide_wholes.specs.Wholes.{DivideState, DivideWhole, IsBound, IsFrontAt, latest_mark, divide_start, divide_take, divide_script, processed, found, kept}
 use Rattle.divide_wholes.specs.Row.{RowNote, RowTerm, RowFront, RowMayFollow}
 use Rattle.divide_wholes.specs.MergeRow.{HasRow, with_new_row}
-use Rattle.dividing_rounds.specs.Found.{IsNext, IsZeroAt, IsQuotientAt, IsRestAt, term_at}
+use Rattle.dividing_rounds.specs.Found.{IsNext, IsZeroAt, IsQuotientAt, IsRestAt}
 
 -- a merge of a division with the notes of its present row, how many fronts it published in all its rows, how many monomials it processed, and whether it has its last answer
 pub record DivideRun : Type 0 where

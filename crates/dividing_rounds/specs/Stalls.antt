@@ -1,5 +1,5 @@
 -- Why the merge of a division doesn't stall: where all that its workers have sent is taken and they wait, it can go on.
-use Rattle.std.specs.Prelude.{◌≡◌, ◌≢◌, ℕ, ◌+◌, ◌<◌, ◌⊎◌, true, List, [], ◌∷◌, ◌++◌, length, Option, Some, None, IfSome}
+use Rattle.std.specs.Prelude.{◌≡◌, ◌≢◌, ℕ, ◌+◌, ◌<◌, ◌⊎◌, true, List, [], ◌++◌, length, Option, Some, None, IfSome}
 use Rattle.sdmp_laws.specs.Order.{Order, ◌⋅◌, Below, IsUnder}
 use Rattle.sdmp_laws.specs.Poly.{Term, lm}
 use Rattle.sdmp_laws.specs.Division.{Division, IsAccepted, AllAtOrBelow, AtOrAbove}
