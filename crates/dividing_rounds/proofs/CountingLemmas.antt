@@ -8,7 +8,7 @@ use Rattle.sdmp_laws.specs.Division.{Division}
 use Rattle.whole_laws.specs.Notes.{Note, TermNote, MarkNote, EndNote, TopFalls, divisor_rows, terms_in}
 use Rattle.whole_laws.specs.Wholes.{notes_of}
 use Rattle.divide_wholes.specs.Wholes.{mark_after, latest_mark}
-use Rattle.divide_wholes.specs.Workers.{IsTop, MarkRises, worker_rows, sum_at}
+use Rattle.divide_wholes.specs.Workers.{IsUnreadTop, MarkRises, worker_rows, sum_at}
 use Rattle.dividing_rounds.specs.Counting.{handed_out, CountStart, CountLearn, CountHand, CountSend, CountMark, CountedSent, CountedFit}
 use Rattle.sdmp_laws.proofs.OrderLemmas.{Three, is_less, is_equal, is_greater, numbers, order_facts}
 use Rattle.sdmp_laws.proofs.ListLemmas.{length-row}
@@ -37,7 +37,7 @@ one_term notes t = ap length (terms_in-append notes (TermNote t ∷ [])) ∙ len
 
 -- ---- the steps
 pub count_start : CountStart
-unfolding handed_out worker_rows terms_in latest_mark mark_after IsTop
+unfolding handed_out worker_rows terms_in latest_mark mark_after IsUnreadTop
 count_start d W w = record { holds = omega arith; terms = omega arith; marks = omega arith; paid_before = omega arith; unchanged = λ e. (refl, refl) }
 
 -- what was handed out stays where a term is learned
@@ -105,7 +105,7 @@ count_send v paid t h one =
       terms = omega (arith, more, kept, terms);
       marks = omega (arith, more, long, marks);
       paid_before = h.paid_before;
-      unchanged = λ e. subst (λ (m : ℕ × Option (List ℕ)). (m.0 ≡ length v.known) × IsTop v.division.ord v.unread m.1) (sym (mark_before (0, None) v.sent t)) (h.unchanged e);
+      unchanged = λ e. subst (λ (m : ℕ × Option (List ℕ)). (m.0 ≡ length v.known) × IsUnreadTop v.division.ord v.unread m.1) (sym (mark_before (0, None) v.sent t)) (h.unchanged e);
     }
 
 -- a mark of the same state doesn't rise
@@ -113,13 +113,13 @@ never_below : (ord : Order) (x y : List ℕ) → (x ≡ y) ⊎ Below ord x y →
 never_below ord x y (inl e) b = (order_facts ord).irreflexive y (subst (λ (v : List ℕ). Below ord y v) e b)
 never_below ord x y (inr c) b = (order_facts ord).irreflexive x ((order_facts ord).transitive x y x c b)
 
-top_once : (ord : Order) (U : List Term) (a b : Option (List ℕ)) → IsTop ord U a → IsTop ord U b → TopFalls ord a b → ⊥
-unfolding IsTop TopFalls
+top_once : (ord : Order) (U : List Term) (a b : Option (List ℕ)) → IsUnreadTop ord U a → IsUnreadTop ord U b → TopFalls ord a b → ⊥
+unfolding IsUnreadTop TopFalls
 top_once ord U None b i j f = f
 top_once ord U (Some x) None i j f = has_nothing x U j i.0
 top_once ord U (Some x) (Some y) i j f = never_below ord x y (within_at ord y x U j.1 i.0) f
 
-same_mark : (ord : Order) (U : List Term) (old : ℕ × Option (List ℕ)) (k : ℕ) (top : Option (List ℕ)) → old.0 ≡ k → IsTop ord U old.1 → IsTop ord U top → MarkRises ord old k top → ⊥
+same_mark : (ord : Order) (U : List Term) (old : ℕ × Option (List ℕ)) (k : ℕ) (top : Option (List ℕ)) → old.0 ≡ k → IsUnreadTop ord U old.1 → IsUnreadTop ord U top → MarkRises ord old k top → ⊥
 unfolding MarkRises
 same_mark ord U old k top e i j (inl l) = omega (arith, l, e)
 same_mark ord U old k top e i j (inr f) = top_once ord U old.1 top i j f.1
@@ -138,7 +138,7 @@ count_mark v paid top h i rises =
       terms = omega (arith, same, terms);
       marks = omega (arith, same, long, marks, less);
       paid_before = omega arith;
-      unchanged = λ e. subst (λ (m : ℕ × Option (List ℕ)). (m.0 ≡ length v.known) × IsTop v.division.ord v.unread m.1) (sym (mark_last (0, None) v.sent (length v.known) top)) (refl, i);
+      unchanged = λ e. subst (λ (m : ℕ × Option (List ℕ)). (m.0 ≡ length v.known) × IsUnreadTop v.division.ord v.unread m.1) (sym (mark_last (0, None) v.sent (length v.known) top)) (refl, i);
     }
   where
     fewer : Three (paid < length v.known + handed_out v) (paid ≡ length v.known + handed_out v) (length v.known + handed_out v < paid) → paid < length v.known + handed_out v

@@ -11,7 +11,7 @@ use Rattle.whole_laws.specs.Notes.{AboveTop, TopIsProduct, IsProductMonomial, Qu
 use Rattle.whole_laws.specs.Wholes.{head_terms, notes_of, head_of_worker}
 use Rattle.divide_wholes.specs.Wholes.{DivideState, DivideWhole, IsSettled, divide_script, latest_mark}
 use Rattle.divide_wholes.specs.Row.{RowNote, row_terms, front_after}
-use Rattle.divide_wholes.specs.Workers.{IsTop, worker_rows}
+use Rattle.divide_wholes.specs.Workers.{IsUnreadTop, worker_rows}
 use Rattle.dividing_rounds.specs.Runs.{IsKnownAt}
 use Rattle.dividing_rounds.specs.Stalls.{mark_of, IsGreatestRead, IsAsked, IsCurrent, IsLow, IsStuck, GoesOn, NobodyStuck, TopWithin, IsDue, DueIsBound, Behind, IsHeld, NoStall, IsLowered, HeardHasWaited}
 use Rattle.sdmp_laws.proofs.OrderLemmas.{Three, is_less, is_equal, is_greater, numbers, below_total, order_facts, length_times, alike_same, alike_self}
@@ -162,7 +162,7 @@ above_none ord None y e = tt
 above_none ord (Some t) y e = absurd (cc e)
 
 pub nobody_stuck : NobodyStuck
-unfolding GoesOn IsTop IsLow
+unfolding GoesOn IsUnreadTop IsLow
 nobody_stuck s None a whole read none =
     let empty = no_first s.unread (head_terms s.heads) read in
     record {
@@ -307,7 +307,7 @@ climb s (suc k) x a whole l h = step (climb s k x a whole (omega (arith, l)) h)
 -- a stuck worker that is current has a top, at what was read or above
 not_low : (s : DivideState) (m : Option (List ℕ)) (w : ℕ) → IsAccepted s.division → DivideWhole s → IsGreatestRead s m → w < s.workers → (IsLow s m w → ⊥)
     → (x : List ℕ) × ((mark_of s w).1 ≡ Some x) × AllAtOrBelow s.division.ord x (s.unread ++ head_terms s.heads)
-unfolding IsLow IsTop AboveTop
+unfolding IsLow IsUnreadTop AboveTop
 not_low s None w a whole read l n = pick (mark_of s w).1 refl
   where
     pick : (top : Option (List ℕ)) → (mark_of s w).1 ≡ top → (x : List ℕ) × ((mark_of s w).1 ≡ Some x) × AllAtOrBelow s.division.ord x (s.unread ++ head_terms s.heads)

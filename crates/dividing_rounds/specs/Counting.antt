@@ -6,7 +6,7 @@ use Rattle.sdmp_laws.specs.Division.{Division}
 use Rattle.whole_laws.specs.Notes.{TermNote, MarkNote, divisor_rows, terms_in}
 use Rattle.whole_laws.specs.Wholes.{notes_of}
 use Rattle.divide_wholes.specs.Wholes.{DivideState, latest_mark}
-use Rattle.divide_wholes.specs.Workers.{WorkerState, IsTop, MarkRises, worker_rows, sum_at}
+use Rattle.divide_wholes.specs.Workers.{WorkerState, IsUnreadTop, MarkRises, worker_rows, sum_at}
 
 -- how many products a worker has handed out: those of what it knows, less those that it holds
 unfoldable pub handed_out : WorkerState → ℕ
@@ -19,7 +19,7 @@ pub record NotesCounted (v : WorkerState) (paid : ℕ) : Type 0 where
   pub marks : length v.sent ≤ length (terms_in v.sent) + paid
   pub paid_before : paid ≤ length v.known + handed_out v
   -- where nothing was learned or handed out since, the latest mark is the one that its state gives
-  pub unchanged : paid ≡ length v.known + handed_out v → ((latest_mark v.sent).0 ≡ length v.known) × IsTop v.division.ord v.unread (latest_mark v.sent).1
+  pub unchanged : paid ≡ length v.known + handed_out v → ((latest_mark v.sent).0 ≡ length v.known) × IsUnreadTop v.division.ord v.unread (latest_mark v.sent).1
 
 -- ---- each step of a worker keeps its count
 abbrev pub CountStart : Type 0
@@ -43,7 +43,7 @@ CountSend =
 
 abbrev pub CountMark : Type 0
 CountMark =
-    (v : WorkerState) (paid : ℕ) (top : Option (List ℕ)) → NotesCounted v paid → IsTop v.division.ord v.unread top →
+    (v : WorkerState) (paid : ℕ) (top : Option (List ℕ)) → NotesCounted v paid → IsUnreadTop v.division.ord v.unread top →
     MarkRises v.division.ord (latest_mark v.sent) (length v.known) top →
     NotesCounted (record v { sent = v.sent ++ MarkNote (length v.known) top ∷ [] }) (length v.known + handed_out v)
 

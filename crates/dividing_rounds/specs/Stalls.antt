@@ -7,7 +7,7 @@ use Rattle.whole_laws.specs.Notes.{AboveTop, divisor_rows, has}
 use Rattle.whole_laws.specs.Wholes.{head_terms, notes_of, head_of_worker}
 use Rattle.divide_wholes.specs.Wholes.{DivideState, DivideWhole, IsBound, IsFinished, latest_mark}
 use Rattle.divide_wholes.specs.Row.{RowNote, row_terms, front_after}
-use Rattle.divide_wholes.specs.Workers.{WorkerState, IsTop, worker_rows}
+use Rattle.divide_wholes.specs.Workers.{WorkerState, IsUnreadTop, worker_rows}
 use Rattle.dividing_rounds.specs.Found.{IsNext}
 use Rattle.dividing_rounds.specs.Runs.{DivideRun, RunWhole, IsKnownAt}
 
@@ -17,7 +17,7 @@ mark_of s w = latest_mark (notes_of s.taken w)
 
 -- m is the greatest monomial that was read; None where nothing is left of what was read
 abbrev pub IsGreatestRead : DivideState → Option (List ℕ) → Type 0
-IsGreatestRead s m = IsTop s.division.ord (s.unread ++ head_terms s.heads) m
+IsGreatestRead s m = IsUnreadTop s.division.ord (s.unread ++ head_terms s.heads) m
 
 -- the merge needs to hear from the worker w: it has no head, and its part of the divisor has a term
 pub record IsAsked (s : DivideState) (w : ℕ) : Type 0 where
