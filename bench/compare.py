@@ -53,7 +53,7 @@ def main():
     with tempfile.TemporaryDirectory() as scratch:
         folder = words.folder or scratch
         if not os.path.exists(os.path.join(folder, 'manifest.json')):
-            write_folder(folder, words.size)
+            turns.apart(write_folder, folder, words.size)
         with open(os.path.join(folder, 'manifest.json')) as file:
             rows = [row for row in json.load(file) if re.search(words.only, row['name'])]
         programs = {'sdmp': [os.path.abspath(words.sdmp), '--workers', words.workers]}

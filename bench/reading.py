@@ -39,7 +39,7 @@ def main():
     words = parser.parse_args()
     with tempfile.TemporaryDirectory() as scratch:
         session = os.path.join(words.folder or scratch, 'reading%d.sdmp' % words.terms)
-        terms = words.terms if os.path.exists(session) else write_session(session, words.terms)
+        terms = words.terms if os.path.exists(session) else turns.apart(write_session, session, words.terms)
         size = os.path.getsize(session)
         programs = {'sdmp': [os.path.abspath(words.sdmp)]}
         peer = program.flint_peer(scratch)

@@ -1,4 +1,5 @@
 """Commands take turns at a session, and the least time of each counts."""
+import concurrent.futures
 import hashlib
 import math
 import os
@@ -15,6 +16,12 @@ LATE = 'late'
 
 # wall and processor seconds, the greatest peak of memory in MiB, and the exit status
 Run = namedtuple('Run', 'wall used memory status')
+
+
+def apart(call, *words):
+    """Makes the call in a process of its own: the system counts this one's peak of memory as that of each program that it starts."""
+    with concurrent.futures.ProcessPoolExecutor(1) as pool:
+        return pool.submit(call, *words).result()
 
 
 def run(command, session, sink=subprocess.DEVNULL, copies=1, limit=None):
