@@ -1,5 +1,5 @@
 #!/usr/bin/env python3
-"""Gives the program inputs, sinks and limits that a friend wouldn't.
+"""Gives the program large inputs, broken sinks and sources, and little memory.
 
     hostile.py [--sdmp PROGRAM] [--size BYTES] [--runs N] [--every N] [--only WORD]
 
@@ -14,11 +14,13 @@ after each Nth (1); /dev/full; descriptors that are closed; a directory as input
 Limits: each power of two as the limit on the address space.
 
 Nothing may stand on standard error. With --only, the cases whose names hold
-the word. 4 MiB and --every 101 take some seconds.
+the word. A size of
+1048576 and --every 101 take a minute, most of it the products by four workers.
 
 Exit status: 0, or 1 where a run did something else.
 """
 import argparse
+import fcntl
 import itertools
 import os
 import resource
@@ -27,7 +29,7 @@ import sys
 import tempfile
 from collections import namedtuple
 
-from shared import program
+from shared import program, turns
 
 MOST = 1 << 26
 TERM = 32
@@ -171,6 +173,10 @@ def products(target, size):
     return Right(DONE, b'x^2-1\n', count, b'', 4)
 
 
+def products_by_one_worker(target, size):
+    return products(target, size)
+
+
 def too_long(target, size):
     """One byte more than an input may have, whatever the size."""
     repeat(target, b'\n', MOST + 1)
@@ -179,7 +185,8 @@ def too_long(target, size):
 
 MAKERS = [one_line, one_blank_line, line_feeds, line_feeds_behind_a_header, plus_signs, one_number,
           one_number_of_zeros, one_term, terms, cancelling_terms, definitions, repeated_definitions,
-          names_alike_in_28_bytes, names_alike_in_31_bytes, products, too_long]
+          names_alike_in_28_bytes, names_alike_in_31_bytes, products, products_by_one_worker, too_long]
+WORDS = {products_by_one_worker: ['--workers', '1']}
 
 
 def run(words, source, sink, limit=None):
@@ -203,12 +210,12 @@ def is_written(out, right):
     return out.read(len(right.behind) + 1) == right.behind
 
 
-def least(sdmp, session, right, runs):
+def least(words, session, right, runs):
     """The least time and the greatest peak of memory, and what was wrong."""
     used, memory, wrong = [], 0, []
     for _ in range(runs):
         with open(session, 'rb') as source, tempfile.TemporaryFile() as out:
-            ended = run([sdmp], source, out)
+            ended = run(words, source, out)
             used.append(ended.used)
             memory = max(memory, ended.memory)
             if ended.status != right.status:
@@ -220,18 +227,24 @@ def least(sdmp, session, right, runs):
     return min(used), memory, wrong
 
 
-def large(sdmp, maker, size, runs, empty, folder):
+def made(maker, session, size):
+    with open(session, 'wb') as target:
+        return maker(target, size)
+
+
+def large(sdmp, maker, size, runs, folder):
     """One row of the table of large inputs; whether it was right."""
     rows = []
     for part in size // 2, size:
         session = os.path.join(folder, 'session')
-        with open(session, 'wb') as target:
-            right = maker(target, part)
+        right = turns.apart(made, maker, session, part)
         length = os.path.getsize(session)
-        rows.append((*least(sdmp, session, right, runs), length + TERM * right.terms))
+        rows.append((*least([sdmp] + WORDS.get(maker, []), session, right, runs), length + TERM * right.terms))
     (half, _, wrong, _), (whole, memory, more, held) = rows
     wrong += more
     ratio = whole / half if half >= SHORT and maker is not too_long else None
+    with file_of(HEAD) as source:
+        empty = run([sdmp], source, subprocess.DEVNULL).memory
     share = max(memory - empty, 0) / held
     if ratio and ratio > LINEAR:
         wrong.append('time not linear')
@@ -252,7 +265,6 @@ def file_of(text):
 
 def is_closed_after(sdmp, session, text, count):
     """A pipe of one page whose reader takes so many bytes and closes it."""
-    import fcntl
     there, here = os.pipe()
     page = fcntl.fcntl(there, fcntl.F_SETPIPE_SZ, 4096)
     with file_of(session) as source, tempfile.TemporaryFile() as errors:
@@ -272,7 +284,7 @@ def is_closed_after(sdmp, session, text, count):
 
 def pipes(sdmp, every):
     lines = 1400
-    session = HEAD + b'a=x+1\nb=x-1\n' + b'mul a b\n' * lines
+    session = HEAD + b'a=x^2-1\n' + b'show a\n' * lines
     text = b'x^2-1\n' * lines
     counts = range(0, len(text) + 1, every)
     wrong = [count for count in counts if not is_closed_after(sdmp, session, text, count)]
@@ -343,14 +355,12 @@ def main():
     parser.add_argument('--every', type=int, default=1)
     parser.add_argument('--only', default='')
     words = parser.parse_args()
-    with file_of(HEAD) as source:
-        empty = run([words.sdmp], source, subprocess.DEVNULL).memory
     right = True
     print('| input of %d bytes | terms | seconds | to the half | MiB | of what is held | |\n|---|---|---|---|---|---|---|' % words.size)
     with tempfile.TemporaryDirectory() as folder:
         for maker in MAKERS:
             if words.only in maker.__name__:
-                right &= large(words.sdmp, maker, words.size, words.runs, empty, folder)
+                right &= large(words.sdmp, maker, words.size, words.runs, folder)
     for name, trial in ('pipes', lambda: pipes(words.sdmp, words.every)), ('devices', lambda: devices(words.sdmp)), ('limits', lambda: limits(words.sdmp)):
         if words.only in name:
             right &= trial()
