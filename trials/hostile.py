@@ -14,8 +14,8 @@ after each Nth (1); /dev/full; descriptors that are closed; a directory as input
 Limits: each power of two as the limit on the address space.
 
 Nothing may stand on standard error. With --only, the cases whose names hold
-the word. A size of
-1048576 and --every 101 take a minute, most of it the products by four workers.
+the word. `--size 262144 --runs 1 --every 101` takes some seconds; products by four
+workers take most of the time of a large size.
 
 Exit status: 0, or 1 where a run did something else.
 """
