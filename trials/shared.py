@@ -6,4 +6,5 @@ HERE = os.path.dirname(os.path.abspath(__file__))
 sys.path.append(os.path.join(HERE, '..', 'bench'))
 
 import program  # noqa: E402
+import turns  # noqa: E402
 import workloads  # noqa: E402
