@@ -193,11 +193,11 @@ def read(text, start, names, modulus):
 # sessions
 
 def lines_of(session):
-    """The lines, each without its line feed and one carriage return before it."""
+    """The lines, each without its line feed and one carriage return at its end."""
     pieces = session.split(b'\n')
-    last = pieces.pop()
-    lines = [p[:-1] if p.endswith(b'\r') else p for p in pieces]
-    return lines + [last] if last else lines
+    if not pieces[-1]:
+        pieces.pop()
+    return [p[:-1] if p.endswith(b'\r') else p for p in pieces]
 
 
 def variables(words):

@@ -236,7 +236,7 @@ def ending(written, status):
 
 
 def batch(sdmp, seed, first, beyond):
-    """Counts of kinds, of words of a session's commands that were answered, and of endings, and all differences."""
+    """Counts of kinds and of endings, and all differences."""
     kinds, endings, differences = Counter(), Counter(), []
     for number in range(first, beyond):
         one, wanted = made(seed, number)
