@@ -230,9 +230,9 @@ def run(sdmp, session, words):
 
 
 def ending(written, status):
-    """How a session ends: its status, or the text of its fault without places."""
+    """How a session ends: its status, or the text of its fault without numbers."""
     last = written[written[:-1].rfind(b'\n') + 1:-1].decode('latin-1')
-    return re.sub(r'^line \d+: | at \d+$', '', last) if status == 2 else 'status %d' % status
+    return re.sub(r'^line \d+: |(?<= at) \d+$', '', last) if status == 2 else 'status %d' % status
 
 
 def batch(sdmp, seed, first, beyond):
