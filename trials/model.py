@@ -2,7 +2,9 @@
 
     model.py < SESSION
 
-It is written from docs/DEFINITIONS.md and docs/FORMAT.md alone. A polynomial
+It is written from docs/DEFINITIONS.md and docs/FORMAT.md alone, but for one
+rule that they leave open: a carriage return at the end of a last line without
+a line feed is dropped too, as the definition `lines` has it. A polynomial
 is a dictionary from vectors of exponents to coefficients, none of them zero.
 Divisions are the textbook's, turn by turn; one of more turns than asked for
 is `TooLong`. The demo isn't modelled.
