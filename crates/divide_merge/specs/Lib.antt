@@ -1,5 +1,6 @@
 pub mod Runs
 pub mod Names
+pub mod Divisors
 pub mod Merges
 pub mod Inside
 pub mod Reached

@@ -2,6 +2,9 @@
 use Rattle.std.specs.Prelude.{◌≡◌, ℕ, ◌+◌, ◌*◌, ◌-◌, ◌<◌, ◌≤◌, ◌⊎◌, ◌^◌, ◌↔◌, ℤ, List, [], ◌++◌, length, Option, Some, None, IfSome, slice_index_or}
 use mathlib.Core.List.{IsPrefix}
 use Rattle.sdmp_laws.specs.Poly.{Term}
+use Rattle.sdmp_laws.specs.Division.{Division, IsExact, IsRem}
+use Rattle.sdmp_laws.specs.LongDivision.{quotient_list}
+use Rattle.sdmp_laws.specs.declared.Mode.TheVariants.{Exact, Remainder}
 use Rattle.whole_laws.specs.Notes.{Note, after_lead, terms_in, owed}
 use Rattle.whole_laws.specs.Wholes.{notes_of, head_of_worker}
 use Rattle.divide_wholes.specs.Row.{RowNote}
@@ -108,3 +111,19 @@ pub record IsSound (lim : ℕ) (v : DivideView) : Type 0 where
   pub rings_count : length v.rings ≡ v.run.state.workers
   pub tails_count : length v.tails ≡ v.run.state.workers
   pub looks_count : length v.looks ≡ v.run.state.workers
+
+-- the division found its quotient, or that there is none
+abbrev pub IsDone : {M E : Type 0} → DivideAdvanceOf M E → Type 0
+IsDone answer.Finished = Unit {0}
+IsDone (answer.NoQuotient at) = Unit {0}
+IsDone (answer.PassedBound term) = ⊥
+IsDone (answer.PassedTerms term) = ⊥
+IsDone (answer.Blocked worker) = ⊥
+IsDone answer.RowFull = ⊥
+IsDone answer.OutFull = ⊥
+
+-- q is the list of quotient terms, and in an exact division the quotient; with r it is the one pair of a division with remainder
+pub record IsEnding (d : Division) (q r : List Term) : Type 0 where
+  pub all : q ≡ quotient_list d
+  pub exact : d.mode ≡ Exact → IsExact d q
+  pub remainder : d.mode ≡ Remainder → IsRem d q r

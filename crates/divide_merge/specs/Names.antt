@@ -1,5 +1,5 @@
 -- Which rings and which row a merge reads and writes, and which division it makes.
-use Rattle.std.specs.Prelude.{◌≡◌, ℕ, ◌<◌, List, [], ◌∷◌, length, slice_index_or}
+use Rattle.std.specs.Prelude.{◌≡◌, ℕ, ◌<◌, ◌^◌, List, [], ◌∷◌, length, slice_index_or}
 use Rattle.atomic_table.specs.Seated.{TableId}
 use Rattle.sdmp_laws.specs.Order.{Grlex}
 use Rattle.sdmp_laws.specs.Canonical.{IsCanonical}
@@ -54,8 +54,10 @@ first_division (a ∷ rings) = script_division a.script
 abbrev pub HasScripts : Division → List RingName → Type 0
 HasScripts d rings = (w : ℕ) (a : RingName) → w < length rings → (slice_index_or rings w a).script ≡ QuotientScript d (length rings) w
 
--- dividend and divisor are polynomials of degrees up to lim, and the division is one that is carried out
+-- dividend and divisor are polynomials of fewer than 2^30 terms each and of degrees up to lim, and the division is one that is carried out
 pub record IsFit (lim : ℕ) (d : Division) : Type 0 where
   pub dividend : IsCanonical d.ord d.p d.n lim d.f
   pub divisor : IsCanonical d.ord d.p d.n lim d.g
   pub accepted : IsAccepted d
+  pub few_dividend : length d.f < 2 ^ 30
+  pub few_divisor : length d.g < 2 ^ 30
