@@ -1,6 +1,7 @@
 pub mod Verdicts
 pub mod Names
 pub mod Divisors
+pub mod Lower
 pub mod Merges
 pub mod Reading
 pub mod Steps

@@ -96,8 +96,6 @@ kept_of (IsBlocked w) = None
 kept_of RowIsFull = None
 kept_of OutIsFull = None
 
--- one state has one answer; whether it is that of a full row depends on the state and the row alone
+-- one state and one row have one answer, whatever room there is
 abbrev pub OneVerdict : Type 0
-OneVerdict =
-    (s : DivideState) (free m n : ℕ) (a b : Verdict) → IsAccepted s.division → (PassesBound s.division s.q → ⊥) → IsVerdict s free m a → IsVerdict s free n b →
-    (m ≡ n → a ≡ b) × (a ≡ RowIsFull → b ≡ RowIsFull)
+OneVerdict = (s : DivideState) (free m n : ℕ) (a b : Verdict) → IsAccepted s.division → IsVerdict s free m a → IsVerdict s free n b → a ≡ b

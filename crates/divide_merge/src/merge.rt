@@ -1,5 +1,5 @@
 //! The merge of a division.
-ghost use Rattle.std.specs.Prelude.{◌≡◌, ◌≢◌, ◌+◌, ◌≤◌, ◌↔◌, [], length, min, OnOk, OnErr, IsTrue, Some, None, List};
+ghost use Rattle.std.specs.Prelude.{◌≡◌, ◌≢◌, ◌+◌, ◌≤◌, ◌++◌, ◌↔◌, [], length, min, OnOk, OnErr, IsTrue, Some, None, List};
 ghost use Rattle.sdmp_laws.specs.Poly.{Term as PlainTerm};
 ghost use Rattle.sdmp_laws.specs.LongDivision.{quotient_list};
 ghost use Rattle.canonical_terms.specs.View.{sum_of};

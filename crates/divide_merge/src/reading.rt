@@ -184,19 +184,19 @@ fn greater<M: Monomial>(unread: M, top: M, steps: &mut Steps) -> Next<M>
     }
 }
 
-// the greatest of the monomials that there are
+// the greater of the monomials that there are
 fn greatest<M: Monomial>(a: Option<M>, b: Option<M>, steps: &mut Steps) -> Option<M>
     ensures { IsGreatest M.order (vector_of M.vector a) (vector_of M.vector b) (vector_of M.vector result) }
 {
-    let Some(left) = a else {
-        return b;
-    };
-    let Some(right) = b else {
-        return a;
-    };
-    match left.higher(right, steps) {
-        Ordering::Less => b,
-        _ => a,
+    match a {
+        None => b,
+        Some(left) => match b {
+            None => Some(left),
+            Some(right) => match left.higher(right, steps) {
+                Ordering::Less => Some(right),
+                _ => Some(left),
+            },
+        },
     }
 }
 

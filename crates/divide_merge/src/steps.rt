@@ -9,7 +9,7 @@ ghost use Rattle.dividing_rounds.specs.Found.{read_coef, IsQuotientAt, IsRestAt}
 ghost use Rattle.dividing_rounds.specs.Stalls.{IsDue};
 ghost use Rattle.divide_merge.specs.Names.{row_identity};
 ghost use Rattle.divide_merge.specs.Inside.{NotEnded};
-ghost use Rattle.divide_merge.specs.Merges.{IsSound, IsStarved, FoundEmpty, verdict_of, free_places};
+ghost use Rattle.divide_merge.specs.Merges.{IsSound, IsStarved, FoundEmpty, taken_of, verdict_of, free_places};
 ghost use Rattle.divide_merge.specs.Reading.{IsReadNext};
 ghost use Rattle.divide_merge.specs.Verdicts.{NoneStuck, IsVerdict, IsFinal};
 ghost use Rattle.divide_merge.specs.Steps.{Looks, TakesNote, PassesOver, FindsTerm, KeepsTerm, PublishesFront, EndsWith};
@@ -51,6 +51,7 @@ impl<R: CoeffRing, M: Monomial> DivideMerge<R, M> {
         ensures sound { IsSound M.LIM self.new }
         ensures looks { Looks self.old self.new worker }
         ensures took { IsTrue result → TakesNote self.old self.new worker }
+        ensures few { IsTrue result → length (taken_of self.new worker) ≤ 2 ^ 63 }
         ensures same { result ≡ false → self.new.run ≡ self.old.run }
         ensures dry { result ≡ false → IsStarved self.new worker }
         ensures empty { result ≡ false → FoundEmpty self.old self.new worker }
