@@ -107,7 +107,7 @@ module _ {X M E : Type 0} (vector : M → List ℕ) (value : E → ℤ) (belongs
         walk [] l h = absurd (omega arith)
         walk (r ∷ ys) l h = ap script_division (h 0 (reader_name r) (omega arith))
 
-    pub fresh : Held X M E
+    abbrev pub fresh : Held X M E
     fresh = record {
       divisor = a;
       dividend = f;
@@ -164,6 +164,7 @@ module _ {X M E : Type 0} (vector : M → List ℕ) (value : E → ℤ) (belongs
     not_passed (inr l) = omega arith
 
     pub begins : IsDivideMerge vector value belongs ord n lim p quotient_room rest_room fresh
+    unfolding notes_at
     begins = record {
       made_for = record {
         scripts = subst (λ (d : Division). HasScripts d (map reader_name rs)) (sym first_is) b.scripts;
@@ -203,7 +204,6 @@ module _ {X M E : Type 0} (vector : M → List ℕ) (value : E → ℤ) (belongs
     }
       where
         no_notes : (v : ℕ) → v < length rs → IsLatest vector (record { known = 0; top = None }) (latest_mark (notes_at (replicate (length rs) []) v))
-        unfolding notes_at
         no_notes v l =
             subst (λ (ns : List Note). IsLatest vector (record { known = 0; top = None }) (latest_mark ns)) (sym (get_or-replicate {A = List Note} (length rs) v [] [] l))
             (subst (IsLatest vector (record { known = 0; top = None })) (sym no_mark) (record { known = refl; top = refl }))

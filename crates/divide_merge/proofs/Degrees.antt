@@ -60,6 +60,7 @@ module _ (lim : ℕ) (d : Division) (fit : IsFit lim d) where
 
   -- the products of the quotient with lower terms of the divisor
   pub products_low : (G : List Term) → AllDegrees (degree (lm d.g)) G → AllDegrees lim (times (quotient_list d) G)
+  unfolding lm times AllDegrees
   products_low G h = pick (quotient_list d) refl
     where
       pick : (Q : List Term) → quotient_list d ≡ Q → AllDegrees lim (times (quotient_list d) G)
@@ -71,11 +72,9 @@ module _ (lim : ℕ) (d : Division) (fit : IsFit lim d) where
           AllDegrees-up (degree (lm (quotient_list d)) + degree (lm d.g)) lim (times (quotient_list d) G) (omega arith) ((degree_laws d.ord d.p d.n).1 (degree (lm (quotient_list d))) (degree (lm d.g)) (quotient_list d) G q h)
         where
           first_lead : (t : Term) (Q : List Term) → degree (lm (t ∷ Q)) ≡ degree t.monomial
-          unfolding lm
           first_lead t Q = refl
 
       nothing_low : (G : List Term) → AllDegrees lim (times [] G)
-      unfolding times AllDegrees
       nothing_low G = tt
 
   pub script_low : (W w : ℕ) → AllDegrees lim (script_list (QuotientScript d W w))
@@ -84,10 +83,10 @@ module _ (lim : ℕ) (d : Division) (fit : IsFit lim d) where
 
   -- a quotient term times the leading monomial
   pub quotient_low : (q : List Term) → IsPrefix q (quotient_list d) → AllDegrees lim q
+  unfolding AllDegrees lm
   quotient_low q i = prefix_low q i.0 (subst (AllDegrees lim) (sym i.1) (pick (quotient_list d) refl))
     where
       prefix_low : (A B : List Term) → AllDegrees lim (A ++ B) → AllDegrees lim A
-      unfolding AllDegrees
       prefix_low [] B h = tt
       prefix_low (t ∷ A) B h = (h.0, prefix_low A B h.1)
 
@@ -95,7 +94,6 @@ module _ (lim : ℕ) (d : Division) (fit : IsFit lim d) where
       pick [] e = subst (AllDegrees lim) (sym e) nothing
         where
           nothing : AllDegrees lim []
-          unfolding AllDegrees
           nothing = tt
       pick (t ∷ Q) e =
           let q = (degree_laws d.ord d.p d.n).0 (quotient_list d) (quotient_poly d fit.accepted) in
@@ -104,7 +102,6 @@ module _ (lim : ℕ) (d : Division) (fit : IsFit lim d) where
           AllDegrees-up (degree (lm (quotient_list d))) lim (quotient_list d) (omega arith) q
         where
           first_lead : (t : Term) (Q : List Term) → degree (lm (t ∷ Q)) ≡ degree t.monomial
-          unfolding lm
           first_lead t Q = refl
 
 -- each head has a degree within the limit
@@ -126,11 +123,10 @@ suffix_low D (t ∷ before) A h = suffix_low D before A h.1
 
 -- so what was read is low
 pub read_low : (lim : ℕ) (s : DivideState) (x : List ℕ) → IsFit lim s.division → DivideWhole s → has x (s.unread ++ head_terms s.heads) ≡ true → degree x ≤ lim
-unfolding IsHead divide_script head_of_worker
+unfolding IsHead divide_script head_of_worker AllDegrees
 read_low lim s x fit whole h = degree_has lim (s.unread ++ head_terms s.heads) x (both s.unread (head_terms s.heads) unread heads) h
   where
     both : (A B : List Term) → AllDegrees lim A → AllDegrees lim B → AllDegrees lim (A ++ B)
-    unfolding AllDegrees
     both [] B a b = b
     both (t ∷ A) B a b = (a.0, both A B a.1 b)
 

@@ -64,7 +64,7 @@ norm_some (t ∷ g) n = let c = norm_cons t g in let a = abs_some t.coefficient 
     abs_some (negsuc i) k = omega arith
 
 module _ (lim : ℕ) (s : DivideState) (fit : IsFit lim s.division) (whole : DivideWhole s) (read : IsGreatestRead s None) (heard : NoneStuck s None) where
-  d : Division
+  abbrev d : Division
   d = s.division
 
   finished : IsFinished s
@@ -109,9 +109,9 @@ module _ (lim : ℕ) (s : DivideState) (fit : IsFit lim s.division) (whole : Div
   nothing_canonical e = subst (IsCanonical d.ord d.p d.n lim) (sym e) (record { poly = nil_poly d.ord d.p d.n; degrees = tt; norm_fits = λ z. let n = norm_nil in omega arith })
 
   pub remainder_canonical : IsCanonical s.division.ord s.division.p s.division.n lim s.r
+  unfolding RemainderFits
   remainder_canonical = pick d.mode refl
     where
       pick : (m : Mode) → d.mode ≡ m → IsCanonical d.ord d.p d.n lim s.r
-      unfolding RemainderFits
       pick Exact e = nothing_canonical (subst (λ (m : Mode). RemainderFits m d s.r) e whole.remainder)
       pick Remainder e = rest_canonical (ending.remainder e).remainder ((remainder_unique d fit.accepted e).1 s.q s.r (ending.remainder e)).1

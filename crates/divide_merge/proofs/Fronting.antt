@@ -21,6 +21,7 @@ use Rattle.quotient_row.specs.declared.note.RowNoteOf.TheVariants as row_note
 use Rattle.term_ring.specs.Names.{reader_name}
 use Rattle.divide_merge.specs.Names.{RowIdentity, writer_row, IsPublishing, first_division, IsFit}
 use Rattle.divide_merge.specs.Merges.{free_places}
+use Rattle.divide_merge.specs.Steps.{PublishesFront}
 use Rattle.divide_merge.specs.Inside.{Held, vector_of, answer_of, taken_notes, published_notes, divide_state, divide_run, divide_view, IsMadeFor, IsDivideMerge}
 use Rattle.divide_merge.proofs.RoundLaws.{run_front_law, due_is_bound, counts_fit}
 
@@ -35,7 +36,7 @@ module _ {X M E : Type 0} (vector : M → List ℕ) (value : E → ℤ) (belongs
     pub multiples : (m : List ℕ) → length m ≡ n → Divides (vector h.divisor.lead.term.mono) m → AtOrAbove ord m (vector b) → AtOrAbove ord m (vector y)
 
   module _ (h : Held X M E) (b y : M) (f : Fronted h b y) where
-    d : Division
+    abbrev d : Division
     d = first_division (map reader_name h.readers)
 
     fit : IsFit lim (first_division (map reader_name h.readers))
@@ -93,7 +94,7 @@ module _ {X M E : Type 0} (vector : M → List ℕ) (value : E → ℤ) (belongs
       notes_are : Published → published_notes vector value w ≡ published_notes vector value h.writer ++ RowFront (vector y) ∷ []
       notes_are u = ap (row_notes_of vector value) u.notes ∙ map-append (row_note_of vector value) (published h.writer) (row_note.Front y ∷ [])
 
-      fronted : Held X M E
+      abbrev fronted : Held X M E
       fronted = record h { writer = w; front = Some y; fronts = h.fronts + 1 }
 
       fronted_state : Published → divide_state vector value fronted ≡ record (divide_state vector value h) { front = Some (vector y) }
@@ -132,3 +133,6 @@ module _ {X M E : Type 0} (vector : M → List ℕ) (value : E → ℤ) (belongs
             cause = MatchOption-from_none (answer_of vector value h.over) _ f.going;
             counted = f.kept.counted;
           }
+
+      pub front_view : Published → PublishesFront (divide_view vector value h) (divide_view vector value (record h { writer = w; front = Some y; fronts = h.fronts + 1 })) (vector b)
+      front_view u = record { steady = record { rings = refl; row = u.row; tails = refl; looks = refl }; front = vector y; no_higher = no_higher; run = fronted_run u; answer = refl; spare = refl }

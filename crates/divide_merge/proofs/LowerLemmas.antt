@@ -148,10 +148,10 @@ power_degree zero k l = absurd (omega arith)
 power_degree (suc n) k l = let z = degree_zeros n in omega arith
 
 long_power : (n i k : ℕ) → length (power n i k) ≡ n
+unfolding zeros
 long_power n i k = length-set (zeros n) i k ∙ long_zeros n
   where
     long_zeros : (n : ℕ) → length (zeros n) ≡ n
-    unfolding zeros
     long_zeros zero = refl
     long_zeros (suc n) = ap suc (long_zeros n)
 

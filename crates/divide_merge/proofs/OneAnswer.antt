@@ -66,7 +66,7 @@ divides_long (a ∷ l) [] d = absurd d
 divides_long (a ∷ l) (y ∷ ys) d = ap suc (divides_long l ys d.1)
 
 module _ (s : DivideState) (x : List ℕ) (a : IsAccepted s.division) (there : read_coef s x ≢ pos 0) where
-  only : List Term
+  abbrev only : List Term
   only = record { monomial = x; coefficient = read_coef s x } ∷ []
 
   here : coef s.division.p only x ≡ read_coef s x

@@ -29,6 +29,7 @@ size t = unsigned_abs t.coefficient
 
 -- a term of a list of terms has the list's coefficient at its monomial
 in_list : (ord : Order) (p n : ℕ) (before rest : List Term) (t : Term) → IsPoly ord p n (before ++ t ∷ rest) → red p (total (before ++ t ∷ rest) t.monomial) ≡ t.coefficient
+unfolding AllBelow
 in_list ord p n [] rest t i = let f = head_facts ord p n t rest i in coef_head ord p t rest f.1 f.2
 in_list ord p n (u ∷ before) rest t i =
     let f = head_facts ord p n u (before ++ t ∷ rest) i in
@@ -37,7 +38,6 @@ in_list ord p n (u ∷ before) rest t i =
     ∙ in_list ord p n before rest t (tail_poly ord p n u (before ++ t ∷ rest) i)
   where
     first_of : (ord : Order) (m : List ℕ) (s : Term) (A : List Term) → AllBelow ord m (s ∷ A) → Below ord s.monomial m
-    unfolding AllBelow
     first_of ord m s A h = h.0
 
 first_row : (ord : Order) (m : List ℕ) (B : List Term) → (B ≡ [] → ⊥) → AllBelow ord m B → Below ord (lm B) m
@@ -53,11 +53,10 @@ lower_norm (t ∷ g) = let c = norm_cons t g in omega arith
 
 -- nothing comes from no rows
 no_rows : (d : Division) (W w : ℕ) → divisor_rows d.g W w ≡ [] → script_list (QuotientScript d W w) ≡ []
-unfolding script_list
+unfolding script_list terms
 no_rows d W w e = ap (λ (G : List Term). terms d.ord d.p (times (quotient_list d) G)) e ∙ ap (terms d.ord d.p) (times_nothing (quotient_list d)) ∙ nothing
   where
     nothing : terms d.ord d.p [] ≡ []
-    unfolding terms
     nothing = refl
 
 not_nothing : (L before rest : List Term) (t : Term) → L ≡ [] → before ++ t ∷ rest ≡ L → ⊥
@@ -66,7 +65,7 @@ not_nothing L before rest t e h = let n = ap (λ (A : List Term). length A) (h �
 -- the size of a head at the candidate
 head_size : (s : DivideState) (x : List ℕ) (w : ℕ) (t : Term) → IsAccepted s.division → DivideWhole s → IsCandidate s x → s.division.p ≡ 0 → w < s.workers → head_of_worker s.heads w ≡ Some t → t.monomial ≡ x
     → size t ≤ norm s.q * norm (divisor_rows s.division.g s.workers w)
-unfolding IsHead divide_script coef
+unfolding IsHead divide_script coef Over lm script_list
 head_size s x w t a whole c zero l e at =
     let d : Division = s.division in
     let G : List Term = divisor_rows d.g s.workers w in
@@ -79,13 +78,13 @@ head_size s x w t a whole c zero l e at =
     let some : G ≡ [] → ⊥ = λ none. not_nothing (script_list script) h.0 prefix.0 t (no_rows d s.workers w none) split in
     let later = whole.quotient in
     let below : Below d.ord (x ⋅ lm G) (x ⋅ lm d.g) =
-        subst (λ (v : List ℕ). Below d.ord v (x ⋅ lm d.g)) (times_comm (lm G) x)
-        (subst (λ (v : List ℕ). Below d.ord (lm G ⋅ x) v) (times_comm (lm d.g) x)
-        ((order_facts d.ord).compatible (lm G) (lm d.g) x (first_vector d.n G some (rows_over d s.workers w a) ∙ sym (length_lm d a)) (first_row d.ord (lm d.g) G some (rows_below d s.workers w a)))) in
+    subst (λ (v : List ℕ). Below d.ord v (x ⋅ lm d.g)) (times_comm (lm G) x)
+    (subst (λ (v : List ℕ). Below d.ord (lm G ⋅ x) v) (times_comm (lm d.g) x)
+    ((order_facts d.ord).compatible (lm G) (lm d.g) x (first_vector d.n G some (rows_over d s.workers w a) ∙ sym (length_lm d a)) (first_row d.ord (lm d.g) G some (rows_below d s.workers w a)))) in
     let final = worker_final d s.workers w s.q later.0 x x a later.1 c.vector c.vector (inl (later_under s x later.0 a whole (candidate_bound s x c) later.1, below)) in
     let value : t.coefficient ≡ red d.p (total (times s.q G) x) =
-        sym (in_list d.ord d.p d.n h.0 prefix.0 t poly) ∙ (λ i. red d.p (total (split i) (at i)))
-        ∙ script_coef d s.workers w x ∙ final in
+    sym (in_list d.ord d.p d.n h.0 prefix.0 t poly) ∙ (λ i. red d.p (total (split i) (at i)))
+    ∙ script_coef d s.workers w x ∙ final in
     let plain : t.coefficient ≡ total (times s.q G) x = value ∙ ap (λ (p : ℕ). red p (total (times s.q G) x)) zero in
     let z = ap unsigned_abs plain in
     let within = total-le-norm (times s.q G) x in
@@ -93,18 +92,16 @@ head_size s x w t a whole c zero l e at =
     omega arith
   where
     first_vector : (n : ℕ) (B : List Term) → (B ≡ [] → ⊥) → Over n B → length (lm B) ≡ n
-    unfolding Over lm
     first_vector n [] k o = absurd (k refl)
     first_vector n (t ∷ B) k o = o.0
 
     script_coef : (d : Division) (W w : ℕ) (x : List ℕ) → red d.p (total (script_list (QuotientScript d W w)) x) ≡ red d.p (total (times (quotient_list d) (divisor_rows d.g W w)) x)
-    unfolding script_list
     script_coef d W w x = same_total d.p (terms d.ord d.p (times (quotient_list d) (divisor_rows d.g W w))) (times (quotient_list d) (divisor_rows d.g W w)) (terms_same d.ord d.p (times (quotient_list d) (divisor_rows d.g W w))) x
 
 -- the heads at x, each within a bound by its worker's rows
 heads_from : (B : List Term) (W K w : ℕ) (x : List ℕ) (heads : List (Option Term)) → ((v : ℕ) (t : Term) → v < length heads → get_or heads v None ≡ Some t → t.monomial ≡ x → size t ≤ K * norm (every W (w + v) 1 B))
     → size_at x (head_terms heads) ≤ K * rows_from size W B 1 w (length heads)
-unfolding head_terms size_at rows_from
+unfolding head_terms size_at rows_from norm
 heads_from B W K w x [] h = omega arith
 heads_from B W K w x (None ∷ heads) h =
     let i = heads_from B W K (suc w) x heads (λ v t l e at. subst (λ (u : ℕ). size t ≤ K * norm (every W u 1 B)) (let e : w + suc v ≡ suc w + v = omega arith in e) (h (suc v) t (omega arith) e at)) in
@@ -119,7 +116,6 @@ heads_from B W K w x (Some t ∷ heads) h = pick (alike t.monomial x) refl
     sum = grind arith
 
     norms : norm (every W w 1 B) ≡ sum_by size (every W w 1 B)
-    unfolding norm
     norms = refl
 
     here : t.monomial ≡ x → size t ≤ K * norm (every W w 1 B)
@@ -134,7 +130,7 @@ suffix_norm A F s = let e = ap norm s.1 in let c = norm_append s.0 A in omega ar
 
 -- all that was read at the candidate adds up to no more than the norms allow
 pub read_fits : (s : DivideState) (x : List ℕ) → IsAccepted s.division → DivideWhole s → IsCandidate s x → s.division.p ≡ 0 → unsigned_abs (total s.unread x) + size_at x (head_terms s.heads) ≤ greatest_norm
-unfolding head_of_worker divisor_rows
+unfolding head_of_worker divisor_rows norm
 read_fits s x a whole c zero =
     let B : List Term = after_lead s.division.g in
     let h = heads_from B s.workers (norm s.q) 0 x s.heads (λ v t l e at. subst (λ (u : ℕ). size t ≤ norm s.q * norm (every s.workers u 1 B)) (let z : v ≡ 0 + v = omega arith in z) (head_size s x v t a whole c zero (let n = whole.heads_count in omega arith) e at)) in
@@ -149,5 +145,4 @@ read_fits s x a whole c zero =
     omega arith
   where
     norm_is : (A : List Term) → sum_by size A ≡ norm A
-    unfolding norm
     norm_is A = refl

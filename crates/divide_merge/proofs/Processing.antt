@@ -31,6 +31,7 @@ use Rattle.divide_merge.specs.Names.{RowIdentity, writer_row, IsPublishing, firs
 use Rattle.divide_merge.specs.Verdicts.{NoneStuck}
 use Rattle.divide_merge.specs.Merges.{DivideView, free_places}
 use Rattle.divide_merge.specs.Reading.{IsReadNext, BeginsAt}
+use Rattle.divide_merge.specs.Steps.{PassesOver, FindsTerm, KeepsTerm}
 use Rattle.divide_merge.specs.Inside.{Held, vector_of, answer_of, NotEnded, taken_notes, published_notes, divide_state, divide_run, divide_view, IsMadeFor, HasWorkers, HasTerms, IsDivideMerge}
 use Rattle.divide_merge.specs.declared.mark.Next.{Next}
 use Rattle.divide_merge.proofs.RoundLaws.{run_zero_law, run_rest_law, run_found_law, nobody_stuck, counts_fit}
@@ -107,7 +108,7 @@ module _ {X M E : Type 0} (vector : M → List ℕ) (value : E → ℤ) (belongs
     pub seen : k ≡ cond x.unread (h.seen + 1) h.seen
 
   module _ (h : Held X M E) (x : Next M) (r : Ready h x) where
-    d : Division
+    abbrev d : Division
     d = first_division (map reader_name h.readers)
 
     fit : IsFit lim (first_division (map reader_name h.readers))
@@ -126,7 +127,7 @@ module _ {X M E : Type 0} (vector : M → List ℕ) (value : E → ℤ) (belongs
         let mine = r.next.headed headed in
         let o = r.kept.made_for.ordered in
         let same : y ≡ vector x.mono = at_both d.ord y (vector x.mono) (at_has d.ord y (vector x.mono) (head_terms (plain_heads vector value h.heads)) top.there mine.greatest)
-            (at_has d.ord (vector x.mono) y (head_terms (plain_heads vector value h.heads)) mine.there (subst (λ (i : Order). AllAtOrBelow i y (head_terms (plain_heads vector value h.heads))) (sym o) top.greatest)) in
+        (at_has d.ord (vector x.mono) y (head_terms (plain_heads vector value h.heads)) mine.there (subst (λ (i : Order). AllAtOrBelow i y (head_terms (plain_heads vector value h.heads))) (sym o) top.greatest)) in
         let f = read_fits (divide_state vector value h) (vector x.mono) fit.accepted r.kept.whole.whole next_is.candidate (r.kept.made_for.modulus ∙ zero) in
         let e = ap (λ (v : List ℕ). size_at v (head_terms (plain_heads vector value h.heads))) same in
         omega arith
@@ -173,7 +174,7 @@ module _ {X M E : Type 0} (vector : M → List ℕ) (value : E → ℤ) (belongs
           }
 
       -- where the coefficient is zero
-      passed : Held X M E
+      abbrev passed : Held X M E
       passed = record h { heads = hs; seen = k; last = Some x.mono; processed = h.processed + 1 }
 
       passed_state : divide_state vector value passed ≡ processed (divide_state vector value h) (vector x.mono)
@@ -209,9 +210,12 @@ module _ {X M E : Type 0} (vector : M → List ℕ) (value : E → ℤ) (belongs
         counted = r.kept.counted;
       }
 
+      pub pass_view : PassesOver (divide_view vector value h) (divide_view vector value (record h { heads = hs; seen = k; last = Some x.mono; processed = h.processed + 1 })) (vector x.mono)
+      pass_view = record { steady = record { rings = refl; row = refl; tails = refl; looks = refl }; run = passed_run; answer = refl; spare = refl }
+
       -- ---- where a term goes to the remainder
       module _ (t : TermOf M E) (s : ℕ) where
-        gone : Held X M E
+        abbrev gone : Held X M E
         gone = record h { heads = hs; seen = k; last = Some x.mono; processed = h.processed + 1; rest = h.rest ++ t ∷ []; spare = s }
 
         gone_state : term_of vector value t ≡ record { monomial = vector x.mono; coefficient = read_coef (divide_state vector value h) (vector x.mono) } → divide_state vector value gone ≡ kept (divide_state vector value h) (vector x.mono)
@@ -255,6 +259,10 @@ module _ {X M E : Type 0} (vector : M → List ℕ) (value : E → ℤ) (belongs
               counted = r.kept.counted;
             }
 
+        pub keep_view : s + 1 ≡ h.spare → term_of vector value t ≡ record { monomial = vector x.mono; coefficient = read_coef (divide_state vector value h) (vector x.mono) }
+            → KeepsTerm (divide_view vector value h) (divide_view vector value (record h { heads = hs; seen = k; last = Some x.mono; processed = h.processed + 1; rest = h.rest ++ t ∷ []; spare = s })) (vector x.mono)
+        keep_view less e = record { steady = record { rings = refl; row = refl; tails = refl; looks = refl }; run = gone_run e; answer = refl; spare = less }
+
       -- ---- where a quotient term is found and published
       module _ (t : TermOf M E) (m s : ℕ) (w : RowWriter X M E) where
         pub record Published : Type 0 where
@@ -266,7 +274,7 @@ module _ {X M E : Type 0} (vector : M → List ℕ) (value : E → ℤ) (belongs
         notes_are : Published → published_notes vector value w ≡ published_notes vector value h.writer ++ RowTerm (term_of vector value t) ∷ []
         notes_are u = ap (row_notes_of vector value) u.notes ∙ map-append (row_note_of vector value) (published h.writer) (row_note.Term t ∷ [])
 
-        came : Held X M E
+        abbrev came : Held X M E
         came = record h { heads = hs; seen = k; last = Some x.mono; processed = h.processed + 1; found = h.found ++ t ∷ []; norm = m; spare = s; writer = w; front = Some x.mono }
 
         at_front : IsQuotientAt (divide_state vector value h) (vector x.mono) (term_of vector value t) → vector x.mono ≡ vector t.mono ⋅ lm d.g
@@ -322,3 +330,7 @@ module _ {X M E : Type 0} (vector : M → List ℕ) (value : E → ℤ) (belongs
               cause = MatchOption-from_none (answer_of vector value h.over) _ r.going;
               counted = r.kept.counted;
             }
+
+        pub find_view : Published → s + 1 ≡ h.spare → IsQuotientAt (divide_state vector value h) (vector x.mono) (term_of vector value t)
+            → FindsTerm (divide_view vector value h) (divide_view vector value (record h { heads = hs; seen = k; last = Some x.mono; processed = h.processed + 1; found = h.found ++ t ∷ []; norm = m; spare = s; writer = w; front = Some x.mono })) (vector x.mono) (term_of vector value t)
+        find_view u less q = record { steady = record { rings = refl; row = u.row; tails = refl; looks = refl }; run = came_run u q; answer = refl; spare = less }

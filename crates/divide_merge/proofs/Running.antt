@@ -95,8 +95,10 @@ fills_follows lim a b s going f = pick f.counts
     pick : (b.run ≡ a.run) ⊎ (notes_count a.run.state.taken < notes_count b.run.state.taken) → Follows (divide_reached a) (divide_reached b)
     pick (inl e) = inl (λ i. record { run = e i; answer = f.answer i; spare = f.spare i })
     pick (inr l) =
-        inr (s.over ∙ ap (λ (o : Option Verdict). is_some o) going,
-        inr (let q = ap (λ (r : DivideRun). length r.state.q) f.run in let x = ap (λ (r : DivideRun). r.fronts_count) f.run in let y = ap (λ (r : DivideRun). r.processed_count) f.run in omega arith))
+        inr (
+          s.over ∙ ap (λ (o : Option Verdict). is_some o) going,
+          inr (let q = ap (λ (r : DivideRun). length r.state.q) f.run in let x = ap (λ (r : DivideRun). r.fronts_count) f.run in let y = ap (λ (r : DivideRun). r.processed_count) f.run in omega arith),
+        )
 
 -- ---- after some turns
 pub record Runs (lim : ℕ) (a b : DivideView) : Type 0 where
@@ -186,10 +188,10 @@ module _ (lim : ℕ) (a b c d : DivideView) (r : Runs lim a b) (f : Fills b c) (
 -- ---- a merge that is over
 -- the answer that it gives again has its cause
 pub over_cause : (lim : ℕ) (v : DivideView) (x : Verdict) → IsSound lim v → v.answer ≡ Some x → IsCause v v x × (kept_of x ≡ Some x)
+unfolding IsFinal kept_of
 over_cause lim v x s e = pick x (subst (λ (o : Option Verdict). IfSome o (λ y. IsFinal y × IsVerdict v.run.state (free_places v) v.spare y)) e s.cause)
   where
     pick : (y : Verdict) → IsFinal y × IsVerdict v.run.state (free_places v) v.spare y → IsCause v v y × (kept_of y ≡ Some y)
-    unfolding IsFinal kept_of
     pick Finishes k = ((k.1, tt), refl)
     pick (HasNone m) k = ((k.1, tt), refl)
     pick (PassesNorm u) k = ((k.1, tt), refl)

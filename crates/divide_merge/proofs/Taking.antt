@@ -68,9 +68,6 @@ module _ {X M E : Type 0} (vector : M → List ℕ) (value : E → ℤ) (belongs
     pub was : d ≡ get_or h.readers w d
 
   module _ (h : Held X M E) (w : ℕ) (ring : Ring X M E) (d : Reader X M E) (a : Asked h w ring d) where
-    rs : List (Reader X M E)
-    rs = h.readers
-
     here : (r : Reader X M E) → get_or h.readers w r ≡ d
     here r = read_is h.readers w d r a.below a.was
 

@@ -96,7 +96,7 @@ module _ (lim : ℕ) (a b : DivideView) (s : IsSound lim a) (going : a.answer �
 
   -- ---- the merge is over
   pub turns_end : (x : Verdict) → IsFinal x → IsVerdict a.run.state (free_places a) a.spare x → EndsWith a b x → Turns a b (Some x)
-  unfolding run_over
+  unfolding run_over kept_of IsFinal IsVerdict
   turns_end x f v p = record {
     steady = p.steady;
     workers = ap (λ (r : DivideRun). r.state.workers) p.run;
@@ -119,7 +119,6 @@ module _ (lim : ℕ) (a b : DivideView) (s : IsSound lim a) (going : a.answer �
   }
     where
       final_kept : (x : Verdict) → IsFinal x → kept_of x ≡ Some x
-      unfolding kept_of IsFinal
       final_kept Finishes f = refl
       final_kept (HasNone m) f = refl
       final_kept (PassesNorm t) f = refl
@@ -129,7 +128,6 @@ module _ (lim : ℕ) (a b : DivideView) (s : IsSound lim a) (going : a.answer �
       final_kept OutIsFull f = absurd f
 
       final_cause : (x : Verdict) → IsFinal x → (s t : DivideState) (i j m n : ℕ) → t ≡ s → IsVerdict s i m x → IsVerdict t j n x
-      unfolding IsVerdict IsFinal
       final_cause x f s t i j m n e v = subst (λ (u : DivideState). IsVerdict u j n x) (sym e) (other x f v)
         where
           other : (x : Verdict) → IsFinal x → IsVerdict s i m x → IsVerdict s j n x
@@ -194,7 +192,7 @@ module _ (lim : ℕ) (a b : DivideView) (s : IsSound lim a) (going : a.answer �
 
   -- a front was published, and a worker is waited for
   pub turns_front : (x : List ℕ) (w : ℕ) → PublishesFront a b x → IsDue a.run.state x → HoldsUp a.run.state w → Turns a b (Some (IsBlocked w))
-  unfolding run_front kept_of IsVerdict
+  unfolding run_front kept_of IsVerdict IsUnder
   turns_front x w p d h = record {
     steady = p.steady;
     workers = ap (λ (r : DivideRun). r.state.workers) p.run;
@@ -216,9 +214,6 @@ module _ (lim : ℕ) (a b : DivideView) (s : IsSound lim a) (going : a.answer �
     goes_on = λ e. absurd (true≢false (ap (λ (o : Option Verdict). is_some o) e));
   }
     where
-      t : DivideState
-      t = record a.run.state { front = Some p.front }
-
       stuck : (m : Option (List ℕ)) (v : ℕ) → IsStuck a.run.state m v → IsStuck (record a.run.state { front = Some p.front }) m v
       stuck m v k = record { asked = record { worker = k.asked.worker; no_head = k.asked.no_head; rows = k.asked.rows }; waits = λ c l. k.waits c l }
 
@@ -239,7 +234,6 @@ module _ (lim : ℕ) (a b : DivideView) (s : IsSound lim a) (going : a.answer �
       unasked v k = record { worker = k.worker; no_head = k.no_head; rows = k.rows }
 
       none : (z : List ℕ) → IsDue (record a.run.state { front = Some p.front }) z → ⊥
-      unfolding IsUnder
       none z k = front_done a.run.state x p.front z d p.no_higher (reached k.reached) k.read_below (λ v i. k.tops_below v (unasked v i)) k.lower
         where
           reached : (has z (a.run.state.unread ++ head_terms a.run.state.heads) ≡ true) ⊎ ((v : ℕ) × IsAsked (record a.run.state { front = Some p.front }) v × ((mark_of a.run.state v).1 ≡ Some z)) → (has z (a.run.state.unread ++ head_terms a.run.state.heads) ≡ true) ⊎ ((v : ℕ) × IsAsked a.run.state v × ((mark_of a.run.state v).1 ≡ Some z))

@@ -9,7 +9,7 @@ ghost use Rattle.divide_merge.specs.Inside.{vector_of, answer_of};
 ghost use Rattle.divide_merge.specs.Merges.{IsSound, IsCause, Grows, verdict_of, AllStarved};
 ghost use Rattle.divide_merge.specs.Reached.{divide_reached, Follows};
 ghost use Rattle.divide_merge.specs.Reading.{IsReadNext, next_mono};
-ghost use Rattle.divide_merge.specs.Verdicts.{NoneStuck, IsFirstStuck, IsPresentAt, kept_of};
+ghost use Rattle.divide_merge.specs.Verdicts.{Verdict, NoneStuck, IsFirstStuck, IsPresentAt, kept_of};
 ghost use Rattle.divide_merge.specs.Steps.{Fills, IsLeftAlone, IsAskedAll, Turns};
 
 use crate::answer::{DivideAdvance, DivideAdvanceOf};
@@ -200,8 +200,30 @@ impl<R: CoeffRing, M: Monomial> DivideMerge<R, M> {
         }
     }
 
+    /// The answer that the merge is over with, or else the one that it comes to.
+    pub(crate) fn answer(
+        &mut self,
+        rings: &[Ring<R, M>],
+        row: &Row<R, M>,
+        steps: &mut Steps,
+    ) -> DivideAdvance<R, M>
+        requires sound { IsSound M.LIM self.old }
+        requires rings { self.old.rings ≡ map ring_name rings.now }
+        requires row { self.old.row ≡ row_identity row.now }
+        ensures grows { Grows self.old self.new }
+        ensures follows { Follows (divide_reached self.old) (divide_reached self.new) }
+        ensures cause { IsCause self.old self.new (verdict_of M.vector R.value result) }
+        ensures answer { self.new.answer ≡ kept_of (verdict_of M.vector R.value result) }
+        ensures again { (x : Verdict) → self.old.answer ≡ Some x → self.new ≡ self.old }
+    {
+        match self.over {
+            Some(answer) => answer,
+            None => self.run(rings, row, steps),
+        }
+    }
+
     /// Takes notes and finds terms, until one of the answers has its cause.
-    pub(crate) fn run(
+    fn run(
         &mut self,
         rings: &[Ring<R, M>],
         row: &Row<R, M>,

@@ -1,5 +1,5 @@
 //! What a merge of a division finds at the monomial that it reads next.
-ghost use Rattle.std.specs.Prelude.{◌≡◌, ◌≢◌, ◌↔◌, ◌<◌, ℕ, List, ℤ, MatchOption, IsTrue, Some, None, false};
+ghost use Rattle.std.specs.Prelude.{◌≡◌, ◌≢◌, ◌↔◌, ◌<◌, ℕ, List, ℤ, MatchOption, IsTrue, Some, None, false, cond, eqb};
 ghost use Rattle.sdmp_laws.specs.Order.{IsUnder};
 ghost use Rattle.sdmp_laws.specs.Poly.{coef};
 ghost use Rattle.divide_merge.specs.Inside.{vector_of};
@@ -49,13 +49,7 @@ impl<R: CoeffRing, M: Monomial> DivideMerge<R, M> {
         if !self.heads.is_missing(worker) {
             return false;
         }
-        // the place of its first row in the divisor
-        let first = if worker == 0 {
-            self.readers.len()
-        } else {
-            worker
-        };
-        first < self.divisor.terms
+        first_place(worker, self.readers.len()) < self.divisor.terms
     }
 
     /// Whether the latest mark of the worker knows each quotient term that is found.
@@ -159,6 +153,13 @@ impl<R: CoeffRing, M: Monomial> DivideMerge<R, M> {
             self.coefficients.zero()
         }
     }
+}
+
+// the place of a worker's first row in the divisor
+fn first_place(worker: usize, workers: usize) -> usize
+    ensures { result ≡ cond (eqb worker 0) workers worker }
+{
+    if worker == 0 { workers } else { worker }
 }
 
 // the greater of an unread monomial and the greatest head

@@ -74,10 +74,7 @@ impl<R: CoeffRing, M: Monomial> DivideMerge<R, M> {
         ensures receipt { result.merge.value ≡ self.new }
     {
         self.whole();
-        let answer = match self.over {
-            Some(answer) => answer,
-            None => self.run(rings, row, steps),
-        };
+        let answer = self.answer(rings, row, steps);
         DivideAdvanced {
             answer,
             terms: self.q.len() as u64,
