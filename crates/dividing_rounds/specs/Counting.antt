@@ -47,6 +47,11 @@ CountMark =
     MarkRises v.division.ord (latest_mark v.sent) (length v.known) top →
     NotesCounted (record v { sent = v.sent ++ MarkNote (length v.known) top ∷ [] }) (length v.known + handed_out v)
 
+-- so many notes at most it has sent: as many as it knows terms, and twice as many as there are products of them
+abbrev pub CountedSent : Type 0
+CountedSent =
+    (v : WorkerState) (paid : ℕ) → NotesCounted v paid → length v.sent ≤ length v.known + 2 * (length v.known * length (worker_rows v))
+
 -- the merge took no more notes of the worker w than q has terms, and twice as many as there are products of a term of q and a row of w
 abbrev pub NotesFit : DivideState → ℕ → Type 0
 NotesFit s w = length (notes_of s.taken w) ≤ length s.q + 2 * (length s.q * length (divisor_rows s.division.g s.workers w))

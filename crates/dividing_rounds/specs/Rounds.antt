@@ -33,11 +33,11 @@ ProgressFits =
     (r : DivideRun) → 0 < r.state.workers → RunWhole r → ((w : ℕ) → w < r.state.workers → NotesFit r.state w) →
     progress r < most_rounds r.state.division r.state.workers (length r.state.q)
 
--- and it fits in a word of 64 bits with a bit to spare, where neither factor has 2^30 terms
+-- and it fits in a word of 64 bits, where neither factor has 2^30 terms
 abbrev pub ProgressSmall : Type 0
 ProgressSmall =
-    (r : DivideRun) → 0 < r.state.workers → r.state.workers ≤ 64 → RunWhole r → ((w : ℕ) → w < r.state.workers → NotesFit r.state w) →
-    length r.state.division.f < 2 ^ 30 → length r.state.division.g < 2 ^ 30 → progress r < 2 ^ 63
+    (r : DivideRun) → 0 < r.state.workers → r.state.workers < 2 ^ 32 → RunWhole r → ((w : ℕ) → w < r.state.workers → NotesFit r.state w) →
+    length r.state.division.f < 2 ^ 30 → length r.state.division.g < 2 ^ 30 → progress r < 2 ^ 64
 
 -- where each of the rounds but the last raised progress, and all quotient terms were found, the rounds are within the bound
 abbrev pub RoundsFit : Type 0

@@ -1,5 +1,5 @@
 -- A run of a division's merge: its state, the notes of its row and how much it has done; and that each step keeps it whole.
-use Rattle.std.specs.Prelude.{◌≡◌, ℕ, ◌+◌, ◌-◌, ◌*◌, ◌<◌, ◌≤◌, ◌⊎◌, Bool, true, false, List, [], ◌∷◌, ◌++◌, length, Option, Some, None}
+use Rattle.std.specs.Prelude.{◌≡◌, ℕ, ◌+◌, ◌-◌, ◌*◌, ◌<◌, ◌≤◌, ◌⊎◌, Bool, true, false, List, [], ◌∷◌, ◌++◌, length, Option, Some, None, IfSome}
 use Rattle.std.specs.List.{AllByRecursion}
 use Rattle.sdmp_laws.specs.Order.{Order, IsUnder, Below}
 use Rattle.sdmp_laws.specs.Poly.{Term, times}
@@ -10,7 +10,7 @@ use Rattle.whole_laws.specs.Wholes.{head_terms, notes_of, head_of_worker}
 use Rattle.divide_wholes.specs.Wholes.{DivideState, DivideWhole, IsBound, IsFrontAt, latest_mark, divide_start, divide_take, divide_script, processed, found, kept}
 use Rattle.divide_wholes.specs.Row.{RowNote, RowTerm, RowFront, RowMayFollow}
 use Rattle.divide_wholes.specs.MergeRow.{HasRow, with_new_row}
-use Rattle.dividing_rounds.specs.Found.{IsNext, IsZeroAt, IsQuotientAt, IsRestAt, term_at}
+use Rattle.dividing_rounds.specs.Found.{IsNext, IsZeroAt, IsQuotientAt, IsRestAt}
 
 -- a merge of a division with the notes of its present row, how many fronts it published in all its rows, how many monomials it processed, and whether it has its last answer
 pub record DivideRun : Type 0 where
@@ -49,6 +49,7 @@ pub record IsLog (ord : Order) (low : Option (List ℕ)) (A : List Term) (log : 
 pub record RunWhole (r : DivideRun) : Type 0 where
   pub whole : DivideWhole r.state
   pub row : HasRow r.state r.notes
+  pub front_vector : IfSome r.state.front (λ m. length m ≡ r.state.division.n)
   pub processed_log : List (List ℕ)
   pub bounds_log : List (List ℕ)
   pub processed_fall : IsLog r.state.division.ord r.state.last (workload r.state.division r.state.q) processed_log

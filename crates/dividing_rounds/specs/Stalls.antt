@@ -1,5 +1,5 @@
 -- Why the merge of a division doesn't stall: where all that its workers have sent is taken and they wait, it can go on.
-use Rattle.std.specs.Prelude.{◌≡◌, ◌≢◌, ℕ, ◌+◌, ◌<◌, ◌⊎◌, true, List, [], ◌∷◌, ◌++◌, length, Option, Some, None}
+use Rattle.std.specs.Prelude.{◌≡◌, ◌≢◌, ℕ, ◌+◌, ◌<◌, ◌⊎◌, true, List, [], ◌++◌, length, Option, Some, None, IfSome}
 use Rattle.sdmp_laws.specs.Order.{Order, ◌⋅◌, Below, IsUnder}
 use Rattle.sdmp_laws.specs.Poly.{Term, lm}
 use Rattle.sdmp_laws.specs.Division.{Division, IsAccepted, AllAtOrBelow, AtOrAbove}
@@ -86,11 +86,11 @@ pub record HasWaited (s : DivideState) (w : ℕ) : Type 0 where
 -- no stall: where all asked workers have said all that they can and one is stuck, a front is due
 abbrev pub NoStall : Type 0
 NoStall =
-    (s : DivideState) (m : Option (List ℕ)) (w : ℕ) → IsAccepted s.division → DivideWhole s → IsGreatestRead s m →
-    ((v : ℕ) → IsAsked s v → HasWaited s v) → IsStuck s m w → (x : List ℕ) × IsDue s x
+    (r : DivideRun) (m : Option (List ℕ)) (w : ℕ) → IsAccepted r.state.division → RunWhole r → IsGreatestRead r.state m →
+    ((v : ℕ) → IsAsked r.state v → HasWaited r.state v) → IsStuck r.state m w → (x : List ℕ) × IsDue r.state x
 
 -- the front a is at b or below; each is where b is None
-unfoldable pub IsLowered : Order → Option (List ℕ) → Option (List ℕ) → Type 0
+unfoldable pub IsLowered : (ord : Order) (a b : Option (List ℕ)) → Type 0
 IsLowered ord a None = Unit {0}
 IsLowered ord None (Some b) = ⊥
 IsLowered ord (Some a) (Some b) = AtOrAbove ord a b
@@ -103,6 +103,7 @@ pub record IsHeard (r : DivideRun) (v : WorkerState) (notes : List RowNote) (fro
   pub row : notes ≡ r.notes
   pub learned : length v.known ≡ r.state.start + length (row_terms notes)
   pub mark : latest_mark v.sent ≡ (length v.known, top)
+  pub vector : IfSome front (λ m. length m ≡ v.division.n)
   pub held : IsHeld v.division (worker_rows v) front top
   -- its front is at that of the notes or below, and before the row's first note at the merge's
   pub noted : IsLowered v.division.ord front (front_after v.division None notes)

@@ -6,7 +6,7 @@
 ghost use Rattle.dividing_rounds.specs.Found.{CandidateLast};
 ghost use Rattle.dividing_rounds.specs.Runs.{BoundInWorkload, CountsFit, RunStart, RunTake, RunZero, RunRest, RunFound, RunFront, RunRow};
 ghost use Rattle.dividing_rounds.specs.Stalls.{NobodyStuck, DueIsBound, Behind, NoStall, HeardHasWaited};
-ghost use Rattle.dividing_rounds.specs.Counting.{CountStart, CountLearn, CountHand, CountSend, CountMark, CountedFit};
+ghost use Rattle.dividing_rounds.specs.Counting.{CountStart, CountLearn, CountHand, CountSend, CountMark, CountedSent, CountedFit};
 ghost use Rattle.dividing_rounds.specs.Rounds.{ProgressRises, ProgressFits, ProgressSmall, RoundsFit};
 
 /// Where no term fits at the candidate of an exact division, all quotient terms were found.
@@ -107,6 +107,11 @@ pub fn count_send()
 /// A worker counts its notes when it sends a mark.
 pub fn count_mark()
     ensures { CountMark }
+{}
+
+/// How many notes a worker sends at most.
+pub fn counted_sent()
+    ensures { CountedSent }
 {}
 
 /// How many notes the merge takes at most of a worker that counts them.
