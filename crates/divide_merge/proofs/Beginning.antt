@@ -40,7 +40,7 @@ use Rattle.divide_merge.specs.Divisors.{IsDivisor}
 use Rattle.divide_merge.specs.Inside.{Held, vector_of, answer_of, NotEnded, taken_notes, published_notes, divide_state, divide_run, divide_view, IsLatest, IsMadeFor, HasWorkers, HasTerms, IsDivideMerge}
 use Rattle.divide_merge.specs.declared.divisor.Divisor.{Divisor}
 use Rattle.divide_merge.specs.declared.mark.Mark.{Mark}
-use Rattle.divide_merge.proofs.RoundLaws.{run_start_law, run_row_law}
+use Rattle.dividing_rounds.proofs.RunLemmas.{run_start_law, run_row_law}
 
 none_counted : (k : ℕ) → notes_count (replicate k []) ≡ 0
 none_counted k = let c = sum_by-replicate (λ (n : List Note). length n) k [] in omega arith

@@ -23,7 +23,7 @@ use Rattle.dividing_rounds.specs.Stalls.{IsGreatestRead, GoesOn}
 use Rattle.divide_merge.specs.Names.{IsFit}
 use Rattle.divide_merge.specs.Verdicts.{NoneStuck}
 use Rattle.divide_merge.specs.Merges.{IsEnding}
-use Rattle.divide_merge.proofs.RoundLaws.{nobody_stuck}
+use Rattle.dividing_rounds.proofs.StallLemmas.{nobody_stuck}
 use Rattle.divide_merge.proofs.Degrees.{quotient_low, products_low}
 
 -- ---- norms and degrees of a difference

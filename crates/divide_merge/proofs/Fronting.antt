@@ -23,7 +23,9 @@ use Rattle.divide_merge.specs.Names.{RowIdentity, writer_row, IsPublishing, firs
 use Rattle.divide_merge.specs.Merges.{free_places}
 use Rattle.divide_merge.specs.Steps.{PublishesFront}
 use Rattle.divide_merge.specs.Inside.{Held, vector_of, answer_of, taken_notes, published_notes, divide_state, divide_run, divide_view, IsMadeFor, IsDivideMerge}
-use Rattle.divide_merge.proofs.RoundLaws.{run_front_law, due_is_bound, counts_fit}
+use Rattle.dividing_rounds.proofs.LogLemmas.{counts_fit}
+use Rattle.dividing_rounds.proofs.RunLemmas.{run_front_law}
+use Rattle.dividing_rounds.proofs.StallLemmas.{due_is_bound}
 
 module _ {X M E : Type 0} (vector : M → List ℕ) (value : E → ℤ) (belongs : ℕ → E → Type 0) (ord : Order) (n lim p quotient_room rest_room : ℕ) where
   -- a front y may be published for the bound b

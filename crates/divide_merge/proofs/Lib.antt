@@ -1,4 +1,3 @@
-pub mod RoundLaws
 pub mod MomentLemmas
 pub mod Sound
 pub mod States

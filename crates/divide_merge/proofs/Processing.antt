@@ -34,7 +34,9 @@ use Rattle.divide_merge.specs.Reading.{IsReadNext, BeginsAt}
 use Rattle.divide_merge.specs.Steps.{PassesOver, FindsTerm, KeepsTerm}
 use Rattle.divide_merge.specs.Inside.{Held, vector_of, answer_of, NotEnded, taken_notes, published_notes, divide_state, divide_run, divide_view, IsMadeFor, HasWorkers, HasTerms, IsDivideMerge}
 use Rattle.divide_merge.specs.declared.mark.Next.{Next}
-use Rattle.divide_merge.proofs.RoundLaws.{run_zero_law, run_rest_law, run_found_law, nobody_stuck, counts_fit}
+use Rattle.dividing_rounds.proofs.LogLemmas.{counts_fit}
+use Rattle.dividing_rounds.proofs.RunLemmas.{run_zero_law, run_rest_law, run_found_law}
+use Rattle.dividing_rounds.proofs.StallLemmas.{nobody_stuck}
 use Rattle.divide_merge.proofs.Overflow.{read_fits}
 use Rattle.divide_merge.proofs.OneAnswer.{at_has, at_both}
 

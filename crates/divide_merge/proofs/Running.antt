@@ -17,7 +17,7 @@ use Rattle.divide_merge.specs.Verdicts.{Verdict, Finishes, HasNone, PassesNorm, 
 use Rattle.divide_merge.specs.Merges.{DivideView, free_places, IsSound, IsCause, IsAskedInVain, Grows, taken_of, AllStarved, IsStarved, FoundEmpty}
 use Rattle.divide_merge.specs.Reached.{DivideReach, divide_reached, Follows, Follows-itself}
 use Rattle.divide_merge.specs.Steps.{Fills, Steady, Answers, GoesFarther, Turns}
-use Rattle.divide_merge.proofs.RoundLaws.{counts_fit}
+use Rattle.dividing_rounds.proofs.LogLemmas.{counts_fit}
 use Rattle.divide_merge.proofs.Following.{Follows-trans}
 use Rattle.divide_merge.proofs.Filling.{prefix_refl, prefix_trans}
 

@@ -37,7 +37,7 @@ use Rattle.divide_merge.specs.Merges.{DivideView, IsSound, IsStarved, FoundEmpty
 use Rattle.divide_merge.specs.Steps.{Looks, TakesNote}
 use Rattle.divide_merge.specs.Inside.{Held, vector_of, answer_of, NotEnded, taken_notes, published_notes, divide_state, divide_run, divide_view, IsLatest, IsMadeFor, HasWorkers, IsDivideMerge}
 use Rattle.divide_merge.specs.declared.mark.Mark.{Mark}
-use Rattle.divide_merge.proofs.RoundLaws.{run_take_law}
+use Rattle.dividing_rounds.proofs.RunLemmas.{run_take_law}
 use Rattle.divide_merge.proofs.States.{latest_term, latest_new, notes_more, term_state, mark_state, idle_state}
 
 -- how many notes are taken after one more

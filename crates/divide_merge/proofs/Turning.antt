@@ -18,7 +18,7 @@ use Rattle.divide_merge.specs.Verdicts.{Verdict, Finishes, HasNone, PassesNorm, 
 use Rattle.divide_merge.specs.Merges.{DivideView, IsSound, free_places}
 use Rattle.divide_merge.specs.Reached.{DivideReach, divide_reached, Follows, Follows-itself}
 use Rattle.divide_merge.specs.Steps.{Steady, PassesOver, FindsTerm, KeepsTerm, PublishesFront, EndsWith, Answers, GoesFarther, Turns}
-use Rattle.divide_merge.proofs.RoundLaws.{progress_rises}
+use Rattle.dividing_rounds.proofs.RoundLemmas.{progress_rises}
 use Rattle.divide_merge.proofs.OneAnswer.{at_has, at_both}
 use Rattle.divide_merge.proofs.Filling.{prefix_refl}
 
