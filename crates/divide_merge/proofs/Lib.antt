@@ -9,6 +9,9 @@ pub mod NextRead
 pub mod Processing
 pub mod Filling
 pub mod Turning
+pub mod Bounds
+pub mod Coefficient
+pub mod Clearing
 pub mod Running
 pub mod Fronting
 pub mod LowerLemmas

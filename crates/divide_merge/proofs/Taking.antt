@@ -7,8 +7,8 @@ use Rattle.std.proofs.Math.ListN.{get_or-map}
 use Rattle.std.proofs.lemmas.List.Elements.{All-set}
 use mathlib.Core.List.{IsPrefix}
 use Rattle.sdmp_laws.specs.Order.{Order}
-use Rattle.sdmp_laws.specs.Canonical.{Polynomial}
-use Rattle.whole_laws.specs.Notes.{Note, TermNote, MarkNote, Script, QuotientScript, Carry}
+use Rattle.sdmp_laws.specs.Division.{Division}
+use Rattle.whole_laws.specs.Notes.{Note, TermNote, MarkNote, EndNote, Script, QuotientScript, Carry, CarryAfter, MayFollow, EndMayFollow}
 use Rattle.whole_laws.specs.Wholes.{MergeState, notes_of as notes_at, head_of_worker, merge_start}
 use Rattle.whole_laws.proofs.StepLemmas.{each_worker}
 use Rattle.divide_wholes.specs.Wholes.{DivideState, divide_take, divide_script, latest_mark}
@@ -33,11 +33,12 @@ use Rattle.global_heap.proofs.Steps.{NoneBelow-set, count_one, taking}
 use Rattle.global_heap.proofs.Taking.{read_is, met_tail, met_looks, notes_now}
 use Rattle.divide_merge.specs.Names.{writer_row, first_division}
 use Rattle.divide_merge.specs.Verdicts.{Verdict}
-use Rattle.divide_merge.specs.Merges.{DivideView, IsSound, IsStarved, FoundEmpty}
+use Rattle.divide_merge.specs.Merges.{DivideView, IsSound, taken_of, IsStarved, FoundEmpty}
 use Rattle.divide_merge.specs.Steps.{Looks, TakesNote}
 use Rattle.divide_merge.specs.Inside.{Held, vector_of, answer_of, NotEnded, taken_notes, published_notes, divide_state, divide_run, divide_view, IsLatest, IsMadeFor, HasWorkers, IsDivideMerge}
 use Rattle.divide_merge.specs.declared.mark.Mark.{Mark}
 use Rattle.dividing_rounds.proofs.RunLemmas.{run_take_law}
+use Rattle.divide_merge.proofs.Sound.{is_sound}
 use Rattle.divide_merge.proofs.States.{latest_term, latest_new, notes_more, term_state, mark_state, idle_state}
 
 -- how many notes are taken after one more
@@ -55,6 +56,30 @@ pub not_over : {M E : Type 0} (vector : M → List ℕ) (value : E → ℤ) (o :
 not_over vector value None e = refl
 not_over vector value (Some x) e = absurd (true≢false (ap (λ (v : Option Verdict). is_some v) e))
 
+-- what a view shows where a reader looked in vain
+pub record Idle (lim : ℕ) (v u : DivideView) (w : ℕ) : Type 0 where
+  pub sound : IsSound lim u
+  pub looks : Looks v u w
+  pub run : u.run ≡ v.run
+  pub dry : IsStarved u w
+  pub empty : FoundEmpty v u w
+
+-- and where a note was taken
+pub record Found (lim : ℕ) (v u : DivideView) (w : ℕ) : Type 0 where
+  pub sound : IsSound lim u
+  pub looks : Looks v u w
+  pub took : TakesNote v u w
+  pub few : length (taken_of u w) ≤ 2 ^ 63
+
+-- an end is no note of a division
+end_after : (d : Division) (W w : ℕ) (a b : List Note) → CarryAfter (QuotientScript d W w) a (b ++ EndNote ∷ []) → ⊥
+unfolding CarryAfter MayFollow EndMayFollow
+end_after d W w a [] c = c.0.1
+end_after d W w a (x ∷ b) c = end_after d W w (a ++ x ∷ []) b c.1
+
+quotient_no_end : (d : Division) (W w : ℕ) (before : List Note) → Carry (QuotientScript d W w) (before ++ EndNote ∷ []) → ⊥
+quotient_no_end d W w before c = end_after d W w [] before c
+
 module _ {X M E : Type 0} (vector : M → List ℕ) (value : E → ℤ) (belongs : ℕ → E → Type 0) (ord : Order) (n lim p quotient_room rest_room : ℕ) where
   abbrev Keeps : Held X M E → Type 0
   Keeps h = IsDivideMerge vector value belongs ord n lim p quotient_room rest_room h
@@ -66,6 +91,17 @@ module _ {X M E : Type 0} (vector : M → List ℕ) (value : E → ℤ) (belongs
     pub below : w < length h.readers
     pub at : (a : RingName) → get_or (map reader_name h.readers) w a ≡ ring_name ring
     pub was : d ≡ get_or h.readers w d
+
+  -- what a call is told of its worker and its ring
+  pub asked : (h : Held X M E) (w : ℕ) (ring : Ring X M E) (d : Reader X M E) (v : DivideView) → IsDivideMerge vector value belongs ord n lim p quotient_room rest_room h → divide_view vector value h ≡ v → v.answer ≡ None → w < v.run.state.workers
+      → ((a : RingName) → get_or v.rings w a ≡ ring_name ring) → d ≡ get_or h.readers w d → Asked h w ring d
+  asked h w ring d v k view going worker of was = record {
+    kept = k;
+    going = ap (λ (u : DivideView). u.answer) view ∙ going;
+    below = subst (λ (u : DivideView). w < u.run.state.workers) (sym view) worker;
+    at = λ a. ap (λ (u : DivideView). get_or u.rings w a) view ∙ of a;
+    was = was;
+  }
 
   module _ (h : Held X M E) (w : ℕ) (ring : Ring X M E) (d : Reader X M E) (a : Asked h w ring d) where
     here : (r : Reader X M E) → get_or h.readers w r ≡ d
@@ -279,3 +315,53 @@ module _ {X M E : Type 0} (vector : M → List ℕ) (value : E → ℤ) (belongs
           cause = MatchOption-from_none (answer_of vector value h.over) _ a.going;
           counted = counted r (note.Mark k top) e;
         }
+
+    -- ---- what contracts see of it
+    -- w has no head
+    pub missing_here : head_of_worker (divide_state vector value h).heads w ≡ None → get_or h.heads w head.Missing ≡ head.Missing
+    missing_here e = pick (get_or h.heads w head.Missing) (a.kept.workers.not_ended w head.Missing (let z = a.kept.workers.heads_long in let b = a.below in omega arith)) (sym head_here ∙ e)
+      where
+        pick : (k : HeadOf M E) → NotEnded k → plain vector value k ≡ None → k ≡ head.Missing
+        pick head.Missing n e = refl
+        pick (head.Term t) n e = absurd (true≢false (ap (λ (o : Option _). is_some o) e))
+        pick head.Ended n e = absurd n
+
+    few_taken : (r : Reader X M E) → length (taken r) ≤ 2 ^ 63 → length (notes_at (taken_notes vector value (set h.readers w r)) w) ≤ 2 ^ 63
+    few_taken r l = let n = ap (λ (ns : List Note). length ns) (notes_now vector value h.readers w r a.below) ∙ length-map (taken r) (note_of vector value) in omega arith
+
+    pub idle_view : (r : Reader X M E) → IsReaderOf ring r → taken r ≡ taken d → tail_seen d ≤ tail_seen r → tail_seen r ≡ length (taken d) → empty_looks r ≡ empty_looks d + 1
+        → Idle lim (divide_view vector value h) (divide_view vector value (record h { readers = set h.readers w r })) w
+    idle_view r of e tail z looks = record {
+      sound = is_sound vector value belongs ord n lim p quotient_room rest_room (record h { readers = set h.readers w r }) (idle_kept r of e);
+      looks = looks_at r (record h { readers = set h.readers w r }) refl of tail (let l = looks in omega arith) refl refl refl;
+      run = idle_run r of e;
+      dry = dry r e z;
+      empty = empty r looks;
+    }
+
+    pub term_view : (r : Reader X M E) (t : TermOf M E) → IsReaderOf ring r → taken r ≡ taken d ++ note.Term t ∷ [] → Carries vector value (script_in ring) (taken r) → Fits belongs (script_in ring) (note.Term t) → head_of_worker (divide_state vector value h).heads w ≡ None
+        → tail_seen d ≤ tail_seen r → empty_looks r ≡ empty_looks d → length (taken r) ≤ 2 ^ 63
+        → Found lim (divide_view vector value h) (divide_view vector value (record h { readers = set h.readers w r; heads = set h.heads w (head.Term t); taken = min (h.taken + 1) 18446744073709551615 })) w
+    term_view r t of e c fits none tail looks few =
+        let h' = record h { readers = set h.readers w r; heads = set h.heads w (head.Term t); taken = min (h.taken + 1) 18446744073709551615 } in record {
+          sound = is_sound vector value belongs ord n lim p quotient_room rest_room h' (term_kept r t of e c fits none);
+          looks = looks_at r h' refl of tail (let l = looks in omega arith) refl refl refl;
+          took = record { note = TermNote (term_of vector value t); run = term_run r t (min (h.taken + 1) 18446744073709551615) of e };
+          few = few_taken r few;
+        }
+
+    pub mark_view : (r : Reader X M E) (k : ℕ) (top : Option M) → IsReaderOf ring r → taken r ≡ taken d ++ note.Mark k top ∷ [] → Carries vector value (script_in ring) (taken r) → head_of_worker (divide_state vector value h).heads w ≡ None
+        → tail_seen d ≤ tail_seen r → empty_looks r ≡ empty_looks d → length (taken r) ≤ 2 ^ 63
+        → Found lim (divide_view vector value h) (divide_view vector value (record h { readers = set h.readers w r; marks = set h.marks w (record { known = k; top = top }); taken = min (h.taken + 1) 18446744073709551615 })) w
+    mark_view r k top of e c none tail looks few =
+        let ms = set h.marks w (record { known = k; top = top }) in
+        let h' = record h { readers = set h.readers w r; marks = ms; taken = min (h.taken + 1) 18446744073709551615 } in record {
+          sound = is_sound vector value belongs ord n lim p quotient_room rest_room h' (mark_kept r k top of e c none);
+          looks = looks_at r h' refl of tail (let l = looks in omega arith) refl refl refl;
+          took = record { note = note_of vector value (note.Mark k top); run = mark_run r k top ms (min (h.taken + 1) 18446744073709551615) of e };
+          few = few_taken r few;
+        }
+
+    -- no end was taken
+    pub no_end : (r : Reader X M E) → taken r ≡ taken d ++ note.End ∷ [] → Carries vector value (script_in ring) (taken r) → ⊥
+    no_end r e c = quotient_no_end (first_division (map reader_name h.readers)) (length h.readers) w (notes_at (taken_notes vector value h.readers) w) (subst (λ (s : Script). Carry s (notes_at (taken_notes vector value h.readers) w ++ EndNote ∷ [])) script_is (subst (λ (ns : List Note). Carry (script_in ring) ns) (one_more vector value h.readers w r r note.End a.below (more r note.End e)) c))

@@ -141,7 +141,7 @@ module _ (lim : ℕ) (a b : DivideView) (s : IsSound lim a) (going : a.answer �
 
 -- ---- a front that is due
 -- what was read, and the tops of the asked workers, are at one bound or below, at which one of them stands
-reached_below : (s : DivideState) (x y : List ℕ) → (has x (s.unread ++ head_terms s.heads) ≡ true) ⊎ ((w : ℕ) × IsAsked s w × ((mark_of s w).1 ≡ Some x)) → IsDue s y → AtOrAbove s.division.ord x y
+pub reached_below : (s : DivideState) (x y : List ℕ) → (has x (s.unread ++ head_terms s.heads) ≡ true) ⊎ ((w : ℕ) × IsAsked s w × ((mark_of s w).1 ≡ Some x)) → IsDue s y → AtOrAbove s.division.ord x y
 unfolding TopWithin
 reached_below s x y (inl h) d = at_has s.division.ord x y (s.unread ++ head_terms s.heads) h d.read_below
 reached_below s x y (inr w) d = subst (TopWithin s.division.ord y) w.2 (d.tops_below w.0 w.1)
