@@ -10,6 +10,7 @@ use Rattle.whole_laws.proofs.StepLemmas.{each_worker}
 use Rattle.divide_wholes.specs.Wholes.{DivideState}
 use Rattle.divide_wholes.specs.Workers.{IsTop}
 use Rattle.dividing_rounds.specs.Stalls.{IsGreatestRead, IsAsked, IsCurrent, IsDue, TopWithin, mark_of}
+use Rattle.dividing_rounds.proofs.WorkloadLemmas.{has_nothing}
 use Rattle.divide_merge.specs.Reading.{IsGreatest}
 use Rattle.divide_merge.proofs.OneAnswer.{at_has, at_both}
 use Rattle.divide_merge.proofs.Turning.{reached_below}
@@ -109,16 +110,12 @@ due_here s x f u = record {
   lower = u;
 }
 
-not_here : (x : List ℕ) (A : List Term) → A ≡ [] → has x A ≡ true → ⊥
-unfolding has
-not_here x A e h = true≢false (sym (ap (has x) (sym e) ∙ h))
-
 pub none_due : (s : DivideState) (x : List ℕ) → SoFar s s.workers None → IsDue s x → ⊥
 unfolding Bounded
 none_due s x f d = pick d.reached
   where
     pick : (has x (s.unread ++ head_terms s.heads) ≡ true) ⊎ ((w : ℕ) × IsAsked s w × ((mark_of s w).1 ≡ Some x)) → ⊥
-    pick (inl h) = not_here x (s.unread ++ head_terms s.heads) f.bounded.0 h
+    pick (inl h) = has_nothing x (s.unread ++ head_terms s.heads) f.bounded.0 h
     pick (inr w) = true≢false (sym (ap (λ (o : Option (List ℕ)). is_some o) (sym (f.bounded.1 w.0 w.1.worker w.1) ∙ w.2)))
 
 pub not_due_late : (s : DivideState) (x : List ℕ) (w : ℕ) → IsAsked s w → (IsCurrent s w → ⊥) → IsDue s x → ⊥

@@ -13,11 +13,12 @@ use Rattle.sdmp_laws.proofs.ListLemmas.{AllDegrees-every, AllDegrees-up}
 use Rattle.sdmp_laws.proofs.DegreeLemmas.{degree_laws}
 use Rattle.sdmp_laws.proofs.DivisionLemmas.{length_lm}
 use Rattle.sdmp_laws.proofs.LongLemmas.{quotient_list_is}
-use Rattle.whole_laws.specs.Notes.{Note, QuotientScript, Carry, after_lead, divisor_rows, script_list, terms_in, has}
-use Rattle.whole_laws.specs.Wholes.{head_terms, IsHead, notes_of, head_of_worker}
-use Rattle.whole_laws.proofs.NotesLemmas.{Carry-prefix, total_hasnt}
+use Rattle.whole_laws.specs.Notes.{QuotientScript, after_lead, divisor_rows, script_list, has}
+use Rattle.whole_laws.specs.Wholes.{head_terms}
+use Rattle.whole_laws.proofs.NotesLemmas.{total_hasnt}
 use Rattle.divide_wholes.specs.Wholes.{DivideState, DivideWhole, divide_script}
-use Rattle.divide_wholes.proofs.Candidate.{quotient_poly, times_nothing}
+use Rattle.divide_wholes.proofs.Candidate.{quotient_poly}
+use Rattle.dividing_rounds.proofs.WorkloadLemmas.{has-append_out, head_at, script_has}
 use Rattle.divide_merge.specs.Names.{IsFit}
 
 -- a monomial that stands in a list has a degree within the list's
@@ -104,18 +105,6 @@ module _ (lim : ℕ) (d : Division) (fit : IsFit lim d) where
           first_lead : (t : Term) (Q : List Term) → degree (lm (t ∷ Q)) ≡ degree t.monomial
           first_lead t Q = refl
 
--- each head has a degree within the limit
-last_low : (D : ℕ) (before rest : List Term) (t : Term) → AllDegrees D (before ++ t ∷ rest) → degree t.monomial ≤ D
-unfolding AllDegrees
-last_low D [] rest t h = h.0
-last_low D (u ∷ before) rest t h = last_low D before rest t h.1
-
-heads_low : (D : ℕ) (heads : List (Option Term)) → ((w : ℕ) (t : Term) → w < length heads → get_or heads w None ≡ Some t → degree t.monomial ≤ D) → AllDegrees D (head_terms heads)
-unfolding head_terms AllDegrees
-heads_low D [] h = tt
-heads_low D (None ∷ heads) h = heads_low D heads (λ w t l e. h (suc w) t (omega arith) e)
-heads_low D (Some t ∷ heads) h = (h 0 t (omega arith) refl, heads_low D heads (λ w u l e. h (suc w) u (omega arith) e))
-
 suffix_low : (D : ℕ) (before A : List Term) → AllDegrees D (before ++ A) → AllDegrees D A
 unfolding AllDegrees
 suffix_low D [] A h = h
@@ -123,20 +112,13 @@ suffix_low D (t ∷ before) A h = suffix_low D before A h.1
 
 -- so what was read is low
 pub read_low : (lim : ℕ) (s : DivideState) (x : List ℕ) → IsFit lim s.division → DivideWhole s → has x (s.unread ++ head_terms s.heads) ≡ true → degree x ≤ lim
-unfolding IsHead divide_script head_of_worker AllDegrees
-read_low lim s x fit whole h = degree_has lim (s.unread ++ head_terms s.heads) x (both s.unread (head_terms s.heads) unread heads) h
+unfolding divide_script
+read_low lim s x fit whole h = pick (has-append_out x s.unread (head_terms s.heads) h)
   where
-    both : (A B : List Term) → AllDegrees lim A → AllDegrees lim B → AllDegrees lim (A ++ B)
-    both [] B a b = b
-    both (t ∷ A) B a b = (a.0, both A B a.1 b)
-
-    unread : AllDegrees lim s.unread
-    unread = suffix_low lim whole.unread_suffix.0 s.unread (subst (AllDegrees lim) (sym whole.unread_suffix.1) fit.dividend.degrees)
-
-    heads : AllDegrees lim (head_terms s.heads)
-    heads = heads_low lim s.heads (λ w t l e.
-        let inside : w < s.workers = let c = whole.heads_count in omega arith in
-        let script = QuotientScript s.division s.workers w in
-        let k = subst (λ (o : Option Term). IsHead o (notes_of s.taken w)) e (whole.heads_are w inside) in
-        let prefix : IsPrefix (k.0 ++ t ∷ []) (script_list script) = subst (λ (L : List Term). IsPrefix L (script_list script)) k.1 (Carry-prefix script (notes_of s.taken w) (whole.carried w inside)) in
-        last_low lim k.0 prefix.0 t (subst (AllDegrees lim) (sym (sym (append_assoc k.0 (t ∷ []) prefix.0) ∙ prefix.1)) (script_low lim s.division fit s.workers w)))
+    pick : (has x s.unread ≡ true) ⊎ (has x (head_terms s.heads) ≡ true) → degree x ≤ lim
+    pick (inl u) = degree_has lim s.unread x (suffix_low lim whole.unread_suffix.0 s.unread (subst (AllDegrees lim) (sym whole.unread_suffix.1) fit.dividend.degrees)) u
+    pick (inr u) =
+        let k = head_at s.heads x u in
+        let inside : k.worker < s.workers = let c = whole.heads_count in let b = k.here in omega arith in
+        subst (λ (v : List ℕ). degree v ≤ lim) k.at
+        (degree_has lim (script_list (QuotientScript s.division s.workers k.worker)) k.head.monomial (script_low lim s.division fit s.workers k.worker) (script_has s k.worker k.head whole inside k.is))

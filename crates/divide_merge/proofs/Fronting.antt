@@ -2,16 +2,14 @@
 use Rattle.std.proofs.Common.{◌≡◌, ◌⊎◌, ℕ, ◌+◌, ◌-◌, ◌*◌, ◌<◌, ◌≤◌, ◌^◌, ℤ, true, false, true≢false, List, [], ◌∷◌, ◌++◌, length, map, Option, Some, None, is_some, refl, sym, ap, ◌∙◌, subst, arith, length-append}
 use Rattle.std.proofs.lemmas.List.{map-append}
 use Rattle.std.proofs.lemmas.Option.{MatchOption-from_none}
-use Rattle.std.proofs.Math.Nat.{mul-le-mul}
 use Rattle.sdmp_laws.specs.Order.{Order, Divides}
 use Rattle.sdmp_laws.specs.Poly.{lm}
 use Rattle.sdmp_laws.specs.Division.{Division, AtOrAbove}
-use Rattle.sdmp_laws.specs.Limits.{PassesBound}
 use Rattle.divide_wholes.specs.Row.{RowNote, RowFront, RowMayFollow, row_terms}
 use Rattle.divide_wholes.specs.Wholes.{DivideState, IsFrontAt}
 use Rattle.divide_wholes.proofs.RowLemmas.{row_terms-front}
 use Rattle.canonical_terms.specs.View.{sum_of}
-use Rattle.dividing_rounds.specs.Runs.{DivideRun, RunWhole, IsFrontFor, run_front, workload_count}
+use Rattle.dividing_rounds.specs.Runs.{DivideRun, RunWhole, IsFrontFor, run_front}
 use Rattle.dividing_rounds.specs.Stalls.{IsDue}
 use Rattle.ring_heads.specs.Heads.{plain_heads}
 use Rattle.quotient_row.specs.Ends.{published}
@@ -26,6 +24,7 @@ use Rattle.divide_merge.specs.Inside.{Held, vector_of, answer_of, taken_notes, p
 use Rattle.dividing_rounds.proofs.LogLemmas.{counts_fit}
 use Rattle.dividing_rounds.proofs.RunLemmas.{run_front_law}
 use Rattle.dividing_rounds.proofs.StallLemmas.{due_is_bound}
+use Rattle.divide_merge.proofs.Sound.{workload_low}
 
 module _ {X M E : Type 0} (vector : M → List ℕ) (value : E → ℤ) (belongs : ℕ → E → Type 0) (ord : Order) (n lim p quotient_room rest_room : ℕ) where
   -- a front y may be published for the bound b
@@ -72,18 +71,11 @@ module _ {X M E : Type 0} (vector : M → List ℕ) (value : E → ℤ) (belongs
     pub may_follow : RowMayFollow d (writer_row h.writer).name.start (published_notes vector value h.writer) (RowFront (vector y))
     may_follow = (run_front_law (divide_run vector value h) (vector b) (vector y) fit.accepted f.kept.whole front_for).0
 
-    few_found : length (sum_of vector value h.found) < 2 ^ 30
-    few_found = grind (arith, f.kept.whole.whole.within)
-
     -- one more may be counted
     pub fronts_low : h.fronts + 1 < 2 ^ 64
-    unfolding workload_count
     fronts_low =
         let c = (counts_fit (divide_run vector value h) f.kept.whole).1 in
-        let q = few_found in
-        let a = fit.few_dividend in
-        let g = fit.few_divisor in
-        let m = mul-le-mul (let e : length (sum_of vector value h.found) ≤ 2 ^ 30 = omega arith in e) (let e : length d.g - 1 ≤ 2 ^ 30 = omega arith in e) in
+        let w = workload_low lim d (sum_of vector value h.found) fit f.kept.whole.whole.within in
         omega arith
 
     module _ (w : RowWriter X M E) where

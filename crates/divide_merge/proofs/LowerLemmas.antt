@@ -121,13 +121,6 @@ quotient_of l m d =
     let e = over_times m l d in
     (e, length_over m l d, sym (degree_times (over m l) l) ∙ ap degree e)
 
-divides_long : (l m : List ℕ) → Divides l m → length m ≡ length l
-unfolding Divides
-divides_long [] [] d = refl
-divides_long [] (y ∷ m) d = absurd d
-divides_long (x ∷ l) [] d = absurd d
-divides_long (x ∷ l) (y ∷ m) d = ap suc (divides_long l m d.1)
-
 times_up : (ord : Order) (a b l : List ℕ) → length a ≡ length b → AtOrAbove ord a b → AtOrAbove ord (a ⋅ l) (b ⋅ l)
 times_up ord a b l e (inl f) = inl (ap (λ (v : List ℕ). v ⋅ l) f)
 times_up ord a b l e (inr k) = inr ((order_facts ord).compatible a b l e k)

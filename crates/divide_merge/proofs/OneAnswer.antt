@@ -7,44 +7,35 @@ use Rattle.sdmp_laws.specs.Division.{Division, IsAccepted, Turn, InScope, AtOrAb
 use Rattle.sdmp_laws.specs.Limits.{Passes, PassesBound, quotient_terms_limit}
 use Rattle.sdmp_laws.specs.declared.Mode.{Mode}
 use Rattle.sdmp_laws.specs.declared.Mode.TheVariants.{Exact, Remainder}
-use Rattle.sdmp_laws.proofs.OrderLemmas.{order_facts, alike_self, alike_same, alike_not}
+use Rattle.sdmp_laws.proofs.OrderLemmas.{order_facts, alike_self, alike_not}
 use Rattle.sdmp_laws.proofs.Ints.{red_red, red_zero}
 use Rattle.sdmp_laws.proofs.TermsLemmas.{total_one}
-use Rattle.sdmp_laws.proofs.Tests.{or_out}
 use Rattle.sdmp_laws.proofs.DivisionLemmas.{turn_unique, length_lm}
 use Rattle.sdmp_laws.proofs.LongLemmas.{over_times, length_over}
 use Rattle.whole_laws.specs.Notes.{has}
 use Rattle.whole_laws.specs.Wholes.{head_terms}
 use Rattle.divide_wholes.specs.Wholes.{DivideState}
 use Rattle.divide_wholes.specs.Workers.{IsTop}
+use Rattle.dividing_rounds.proofs.StallLemmas.{within_at}
+use Rattle.dividing_rounds.proofs.WorkloadLemmas.{has_nothing}
 use Rattle.dividing_rounds.specs.Found.{read_coef, term_at, Fits}
 use Rattle.dividing_rounds.specs.Stalls.{IsGreatestRead, IsStuck, IsDue}
 use Rattle.divide_merge.specs.Verdicts.{NoneStuck, IsFirstStuck, HoldsUp, IsFrontDue, IsPresentAt, IsTermDue, IsLeftOver, IsTermWithin, with_term, Verdict, Finishes, HasNone, PassesNorm, PassesCount, IsBlocked, RowIsFull, OutIsFull, IsVerdict, OneVerdict}
 
 -- ---- what is read next is one
 pub at_has : (ord : Order) (x m : List ℕ) (A : List Term) → has x A ≡ true → AllAtOrBelow ord m A → AtOrAbove ord x m
-unfolding has AllAtOrBelow
-at_has ord x m [] h a = absurd (true≢false (sym h))
-at_has ord x m (t ∷ A) h a = pick (λ k. at_has ord x m A k a.1) (or_out (alike t.monomial x) (has x A) h)
-  where
-    pick : (has x A ≡ true → AtOrAbove ord x m) → (alike t.monomial x ≡ true) ⊎ (has x A ≡ true) → AtOrAbove ord x m
-    pick ih (inl e) = subst (λ (k : List ℕ). AtOrAbove ord k m) (alike_same t.monomial x e) a.0
-    pick ih (inr k) = ih k
+at_has ord x m A h a = within_at ord m x A a h
 
 pub at_both : (ord : Order) (x y : List ℕ) → AtOrAbove ord x y → AtOrAbove ord y x → x ≡ y
 at_both ord x y (inl e) k = e
 at_both ord x y (inr b) (inl e) = sym e
 at_both ord x y (inr b) (inr c) = absurd ((order_facts ord).irreflexive x ((order_facts ord).transitive x y x b c))
 
-has_none : (x : List ℕ) (A : List Term) → A ≡ [] → has x A ≡ true → ⊥
-unfolding has
-has_none x A e h = true≢false (sym (ap (has x) (sym e) ∙ h))
-
 top_one : (ord : Order) (A : List Term) (m n : Option (List ℕ)) → IsTop ord A m → IsTop ord A n → m ≡ n
 unfolding IsTop
 top_one ord A None None a b = refl
-top_one ord A None (Some y) a b = absurd (has_none y A a b.0)
-top_one ord A (Some x) None a b = absurd (has_none x A b a.0)
+top_one ord A None (Some y) a b = absurd (has_nothing y A a b.0)
+top_one ord A (Some x) None a b = absurd (has_nothing x A b a.0)
 top_one ord A (Some x) (Some y) a b = ap Some (at_both ord x y (at_has ord x y A a.0 b.1) (at_has ord y x A b.0 a.1))
 
 some_one : (x y : List ℕ) → Some x ≡ Some y → x ≡ y

@@ -20,6 +20,7 @@ use Rattle.whole_laws.proofs.NotesLemmas.{Carry-prefix}
 use Rattle.divide_wholes.specs.Wholes.{DivideState, DivideWhole, IsCandidate, divide_script}
 use Rattle.divide_wholes.proofs.Candidate.{rows_below, rows_over, script_poly, times_nothing, later_under, candidate_bound}
 use Rattle.divide_wholes.proofs.WorkerLemmas.{worker_final}
+use Rattle.dividing_rounds.proofs.WorkloadLemmas.{first_lower}
 use Rattle.divide_core.proofs.Turns.{not_passed}
 use Rattle.ring_heads.specs.Heads.{size_at, TopFits, IsTopOf}
 use Rattle.global_heap.proofs.Counts.{rows_from, rows_le}
@@ -39,11 +40,6 @@ in_list ord p n (u ∷ before) rest t i =
   where
     first_of : (ord : Order) (m : List ℕ) (s : Term) (A : List Term) → AllBelow ord m (s ∷ A) → Below ord s.monomial m
     first_of ord m s A h = h.0
-
-first_row : (ord : Order) (m : List ℕ) (B : List Term) → (B ≡ [] → ⊥) → AllBelow ord m B → Below ord (lm B) m
-unfolding AllBelow lm
-first_row ord m [] n h = absurd (n refl)
-first_row ord m (t ∷ B) n h = h.0
 
 -- the terms after the first have no greater norm
 lower_norm : (g : List Term) → norm (after_lead g) ≤ norm g
@@ -77,10 +73,11 @@ head_size s x w t a whole c zero l e at =
     let poly : IsPoly d.ord d.p d.n (h.0 ++ t ∷ prefix.0) = subst (λ (L : List Term). IsPoly d.ord d.p d.n L) (sym split) (script_poly d s.workers w a) in
     let some : G ≡ [] → ⊥ = λ none. not_nothing (script_list script) h.0 prefix.0 t (no_rows d s.workers w none) split in
     let later = whole.quotient in
+    let lower = first_lower d.ord d.n (lm d.g) G some (rows_below d s.workers w a) (rows_over d s.workers w a) in
     let below : Below d.ord (x ⋅ lm G) (x ⋅ lm d.g) =
     subst (λ (v : List ℕ). Below d.ord v (x ⋅ lm d.g)) (times_comm (lm G) x)
     (subst (λ (v : List ℕ). Below d.ord (lm G ⋅ x) v) (times_comm (lm d.g) x)
-    ((order_facts d.ord).compatible (lm G) (lm d.g) x (first_vector d.n G some (rows_over d s.workers w a) ∙ sym (length_lm d a)) (first_row d.ord (lm d.g) G some (rows_below d s.workers w a)))) in
+    ((order_facts d.ord).compatible (lm G) (lm d.g) x (lower.1 ∙ sym (length_lm d a)) lower.0)) in
     let final = worker_final d s.workers w s.q later.0 x x a later.1 c.vector c.vector (inl (later_under s x later.0 a whole (candidate_bound s x c) later.1, below)) in
     let value : t.coefficient ≡ red d.p (total (times s.q G) x) =
     sym (in_list d.ord d.p d.n h.0 prefix.0 t poly) ∙ (λ i. red d.p (total (split i) (at i)))
@@ -91,10 +88,6 @@ head_size s x w t a whole c zero l e at =
     let n = norm_times s.q G in
     omega arith
   where
-    first_vector : (n : ℕ) (B : List Term) → (B ≡ [] → ⊥) → Over n B → length (lm B) ≡ n
-    first_vector n [] k o = absurd (k refl)
-    first_vector n (t ∷ B) k o = o.0
-
     script_coef : (d : Division) (W w : ℕ) (x : List ℕ) → red d.p (total (script_list (QuotientScript d W w)) x) ≡ red d.p (total (times (quotient_list d) (divisor_rows d.g W w)) x)
     script_coef d W w x = same_total d.p (terms d.ord d.p (times (quotient_list d) (divisor_rows d.g W w))) (times (quotient_list d) (divisor_rows d.g W w)) (terms_same d.ord d.p (times (quotient_list d) (divisor_rows d.g W w))) x
 

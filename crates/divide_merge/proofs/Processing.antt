@@ -3,12 +3,10 @@ use Rattle.std.proofs.Common.{◌≡◌, ◌≢◌, ◌⊎◌, inl, inr, ◌↔�
 use Rattle.std.proofs.lemmas.List.{length-map, map-append}
 use Rattle.std.proofs.lemmas.Option.{MatchOption-from_none}
 use Rattle.std.proofs.lemmas.List.Elements.{All-push}
-use Rattle.std.proofs.Math.Nat.{mul-le-mul}
 use Rattle.sdmp_laws.specs.Order.{Order, ◌⋅◌, alike, Below}
 use Rattle.sdmp_laws.specs.Poly.{Term, without, lm, AllBelow, Decreasing, norm}
 use Rattle.sdmp_laws.specs.Canonical.{Polynomial}
 use Rattle.sdmp_laws.specs.Division.{Division, AllAtOrBelow}
-use Rattle.sdmp_laws.specs.Limits.{PassesBound, quotient_terms_limit}
 use Rattle.sdmp_laws.proofs.OrderLemmas.{order_facts, alike_not, alike_self}
 use Rattle.sdmp_laws.proofs.LongLemmas.{over_times}
 use Rattle.whole_laws.specs.Wholes.{head_terms, clear_at}
@@ -18,7 +16,7 @@ use Rattle.divide_wholes.proofs.RowLemmas.{row_terms-append}
 use Rattle.canonical_terms.specs.View.{term_of, sum_of}
 use Rattle.canonical_terms.specs.declared.term.TermOf.{TermOf}
 use Rattle.dividing_rounds.specs.Found.{read_coef, term_at, Fits, IsNext, IsQuotientAt, IsRestAt}
-use Rattle.dividing_rounds.specs.Runs.{DivideRun, RunWhole, run_zero, run_rest, run_found, workload_count}
+use Rattle.dividing_rounds.specs.Runs.{DivideRun, RunWhole, run_zero, run_rest, run_found}
 use Rattle.dividing_rounds.specs.Stalls.{GoesOn}
 use Rattle.ring_heads.specs.declared.head.HeadOf.{HeadOf}
 use Rattle.ring_heads.specs.Heads.{plain_heads, HeadBelongs, TopFits, size_at}
@@ -37,6 +35,7 @@ use Rattle.divide_merge.specs.declared.mark.Next.{Next}
 use Rattle.dividing_rounds.proofs.LogLemmas.{counts_fit}
 use Rattle.dividing_rounds.proofs.RunLemmas.{run_zero_law, run_rest_law, run_found_law}
 use Rattle.dividing_rounds.proofs.StallLemmas.{nobody_stuck}
+use Rattle.divide_merge.proofs.Sound.{workload_low}
 use Rattle.divide_merge.proofs.Overflow.{read_fits}
 use Rattle.divide_merge.proofs.OneAnswer.{at_has, at_both}
 
@@ -141,18 +140,11 @@ module _ {X M E : Type 0} (vector : M → List ℕ) (value : E → ℤ) (belongs
         let f = fit.few_dividend in
         omega arith
 
-    few_found : length (sum_of vector value h.found) < 2 ^ 30
-    few_found = grind (arith, r.kept.whole.whole.within)
-
     -- one more may be counted
     pub processed_low : h.processed + 1 < 2 ^ 64
-    unfolding workload_count
     processed_low =
         let c = (counts_fit (divide_run vector value h) r.kept.whole).0 in
-        let q = few_found in
-        let a = fit.few_dividend in
-        let b = fit.few_divisor in
-        let m = mul-le-mul (let e : length (sum_of vector value h.found) ≤ 2 ^ 30 = omega arith in e) (let e : length d.g - 1 ≤ 2 ^ 30 = omega arith in e) in
+        let w = workload_low lim d (sum_of vector value h.found) fit r.kept.whole.whole.within in
         omega arith
 
     -- ---- what is processed

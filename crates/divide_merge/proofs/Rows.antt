@@ -3,6 +3,7 @@ use Rattle.std.proofs.Common.{◌≡◌, ◌≢◌, inl, inr, ◌⊎◌, ℕ, ze
 use Rattle.std.proofs.Math.Nat.{mod_self, mod-eq_of_lt}
 use Rattle.sdmp_laws.specs.Poly.{Term, every}
 use Rattle.whole_laws.specs.Notes.{after_lead, divisor_rows}
+use Rattle.dividing_rounds.proofs.LogLemmas.{after_one}
 
 -- the place j is the first from i on that the worker w has
 record IsFirstPlace (W w i j : ℕ) : Type 0 where
@@ -57,15 +58,10 @@ first_place W (suc w) l = record {
   from = omega arith;
 }
 
-lower_count : (g : List Term) → length (after_lead g) ≡ length g - 1
-unfolding after_lead
-lower_count [] = refl
-lower_count (t ∷ g) = omega arith
-
 pub rows_some : (g : List Term) (W w : ℕ) → w < W → cond (eqb w 0) W w < length g → divisor_rows g W w ≢ []
 unfolding divisor_rows
-rows_some g W w l b = place_some W w 1 (cond (eqb w 0) W w) (after_lead g) (first_place W w l) (let c = lower_count g in omega arith)
+rows_some g W w l b = place_some W w 1 (cond (eqb w 0) W w) (after_lead g) (first_place W w l) (let c = after_one g in omega arith)
 
 pub rows_none : (g : List Term) (W w : ℕ) → w < W → length g ≤ cond (eqb w 0) W w → divisor_rows g W w ≡ []
 unfolding divisor_rows
-rows_none g W w l b = place_none W w 1 (cond (eqb w 0) W w) (after_lead g) (first_place W w l) (let c = lower_count g in let f = (first_place W w l).from in omega arith)
+rows_none g W w l b = place_none W w 1 (cond (eqb w 0) W w) (after_lead g) (first_place W w l) (let c = after_one g in let f = (first_place W w l).from in omega arith)
