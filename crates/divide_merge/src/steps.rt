@@ -1,5 +1,5 @@
 //! The steps of a merge of a division: each changes what it holds, and keeps its whole.
-ghost use Rattle.std.specs.Prelude.{◌≡◌, ◌+◌, ◌<◌, ◌^◌, ℕ, IsTrue, Some, None, All, length, pos, cond, false, true, ◌++◌, ◌∷◌, [], slice_index_or, ◌↔◌};
+ghost use Rattle.std.specs.Prelude.{◌≡◌, ◌+◌, ◌<◌, ◌≤◌, ◌^◌, ℕ, IsTrue, Some, None, All, length, pos, cond, false, true, ◌++◌, ◌∷◌, [], slice_index_or, ◌↔◌};
 ghost use Rattle.sdmp_laws.specs.Poly.{norm as norm_of, AllBelow};
 ghost use Rattle.canonical_terms.specs.View.{term_of};
 ghost use Rattle.whole_laws.specs.Wholes.{head_of_worker, head_terms, clear_at};
