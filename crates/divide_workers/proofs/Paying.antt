@@ -1,0 +1,234 @@
+-- Each note of a dividing worker is paid for.
+use Rattle.std.proofs.Common.{◌≡◌, ◌≢◌, ◌⊎◌, inl, inr, ℕ, suc, ◌+◌, ◌*◌, ◌<◌, ◌≤◌, Bool, true, false, true≢false, cond, ℤ, List, [], ◌∷◌, ◌++◌, length, Option, Some, None, refl, sym, ap, ◌∙◌, subst, arith, All, IsPermutation, length-append, append_assoc, append-nil}
+use Rattle.std.proofs.lemmas.List.Elements.{All-nil, All-cons, All-head, All-tail, All-append, All-weaker}
+use Rattle.std.proofs.lemmas.List.Sorted.{All-permutation, IsPermutation-append_left, IsPermutation-append_right, IsPermutation-trans, length_permutation}
+use Rattle.sdmp_laws.specs.Order.{Order, alike, Below}
+use Rattle.sdmp_laws.specs.Poly.{Term, times, row, is_zero}
+use Rattle.sdmp_laws.specs.Division.{Division, AtOrAbove, AllAtOrBelow}
+use Rattle.sdmp_laws.proofs.OrderLemmas.{order_facts, alike_same}
+use Rattle.sdmp_laws.proofs.Tests.{or_out}
+use Rattle.sdmp_laws.proofs.PolyLemmas.{times_append_left}
+use Rattle.sdmp_laws.proofs.ListLemmas.{All-back, length-row, length-times}
+use Rattle.whole_laws.specs.Notes.{Note, TermNote, MarkNote, EndNote, terms_in, has, TopFalls}
+use Rattle.whole_laws.proofs.NotesLemmas.{terms_in-append, terms_in-mark}
+use Rattle.divide_wholes.specs.Wholes.{mark_after, latest_mark}
+use Rattle.divide_wholes.specs.Workers.{WorkerState, MarkRises, IsTop, worker_rows, sum_at}
+use Rattle.divide_workers.specs.Fronts.{PlainFront, IsPast}
+use Rattle.divide_workers.specs.Working.{AllAtTop, IsMarked, HasPaid, IsFewSent}
+
+-- ---- the latest mark
+mark_after-append : (m : ℕ × Option (List ℕ)) (a b : List Note) → mark_after m (a ++ b) ≡ mark_after (mark_after m a) b
+unfolding mark_after
+mark_after-append m [] b = refl
+mark_after-append m (TermNote t ∷ a) b = mark_after-append m a b
+mark_after-append m (MarkNote k top ∷ a) b = mark_after-append (k, top) a b
+mark_after-append m (EndNote ∷ a) b = mark_after-append m a b
+
+pub mark_at_term : (a : List Note) (t : Term) → latest_mark (a ++ TermNote t ∷ []) ≡ latest_mark a
+unfolding latest_mark mark_after
+mark_at_term a t = mark_after-append (0, None) a (TermNote t ∷ [])
+
+pub mark_at_mark : (a : List Note) (k : ℕ) (top : Option (List ℕ)) → latest_mark (a ++ MarkNote k top ∷ []) ≡ (k, top)
+unfolding latest_mark mark_after
+mark_at_mark a k top = mark_after-append (0, None) a (MarkNote k top ∷ [])
+
+-- ---- tops
+each_at : (ord : Order) (m : List ℕ) (A : List Term) → AllAtOrBelow ord m A → All (λ (t : Term). AtOrAbove ord t.monomial m) A
+unfolding AllAtOrBelow
+each_at ord m [] h = All-nil _
+each_at ord m (t ∷ A) h = All-cons (λ (u : Term). AtOrAbove ord u.monomial m) t A h.0 (each_at ord m A h.1)
+
+at_each : (ord : Order) (m : List ℕ) (A : List Term) → All (λ (t : Term). AtOrAbove ord t.monomial m) A → AllAtOrBelow ord m A
+unfolding AllAtOrBelow
+at_each ord m [] h = tt
+at_each ord m (t ∷ A) h = (All-head (λ (u : Term). AtOrAbove ord u.monomial m) t A h, at_each ord m A (All-tail (λ (u : Term). AtOrAbove ord u.monomial m) t A h))
+
+pub at_or_below_in : (ord : Order) (m x : List ℕ) (A : List Term) → AllAtOrBelow ord m A → has x A ≡ true → AtOrAbove ord x m
+unfolding AllAtOrBelow has
+at_or_below_in ord m x [] h e = absurd (true≢false (sym e))
+at_or_below_in ord m x (t ∷ A) h e = pick (or_out (alike t.monomial x) (has x A) e)
+  where
+    pick : (alike t.monomial x ≡ true) ⊎ (has x A ≡ true) → AtOrAbove ord x m
+    pick (inl k) = subst (λ (y : List ℕ). AtOrAbove ord y m) (alike_same t.monomial x k) h.0
+    pick (inr k) = at_or_below_in ord m x A h.1 k
+
+nothing_there : (x : List ℕ) (A : List Term) → A ≡ [] → has x A ≡ true → ⊥
+unfolding has
+nothing_there x A none h = true≢false (sym (sym h ∙ ap (has x) none))
+
+both_ways : (ord : Order) (a b : List ℕ) → AtOrAbove ord a b → AtOrAbove ord b a → a ≡ b
+both_ways ord a b (inl e) k = e
+both_ways ord a b (inr h) (inl e) = sym e
+both_ways ord a b (inr h) (inr k) = absurd ((order_facts ord).irreflexive a ((order_facts ord).transitive a b a h k))
+
+-- there is one top
+pub one_top : (ord : Order) (U : List Term) (a b : Option (List ℕ)) → IsTop ord U a → IsTop ord U b → a ≡ b
+unfolding IsTop
+one_top ord U None None h k = refl
+one_top ord U None (Some y) h k = absurd (nothing_there y U h k.0)
+one_top ord U (Some x) None h k = absurd (nothing_there x U k h.0)
+one_top ord U (Some x) (Some y) h k = ap (λ (m : List ℕ). Some m) (both_ways ord x y (at_or_below_in ord y x U k.1 h.0) (at_or_below_in ord x y U h.1 k.0))
+
+pub top_at_top : (ord : Order) (U : List Term) (a : Option (List ℕ)) → IsTop ord U a → AllAtTop ord a U
+unfolding IsTop AllAtTop
+top_at_top ord U None h = h
+top_at_top ord U (Some x) h = h.1
+
+less_at_top : (ord : Order) (top : Option (List ℕ)) (U taken rest : List Term) → IsPermutation U (taken ++ rest) → 0 < length taken → AllAtTop ord top U → AllAtTop ord top rest
+unfolding AllAtTop
+less_at_top ord None U taken rest p some h =
+    let l = length_permutation U (taken ++ rest) p in let k = length-append taken rest in let z = ap (λ (L : List Term). length L) h in absurd (omega (arith, l, k, z))
+less_at_top ord (Some x) U taken rest p some h =
+    at_each ord x rest (All-back (λ (t : Term). AtOrAbove ord t.monomial x) taken rest (All-permutation (λ (t : Term). AtOrAbove ord t.monomial x) U (taken ++ rest) p (each_at ord x U h)))
+
+-- ---- marks that tell something new
+falls_from : (ord : Order) (U : List Term) (old top : Option (List ℕ)) → AllAtTop ord old U → IsTop ord U top → (old ≡ top → ⊥) → TopFalls ord old top
+unfolding IsTop AllAtTop TopFalls
+falls_from ord U None None h k n = n refl
+falls_from ord U None (Some x) h k n = nothing_there x U h k.0
+falls_from ord U (Some a) None h k n = tt
+falls_from ord U (Some a) (Some x) h k n = pick (at_or_below_in ord a x U h k.0)
+  where
+    pick : AtOrAbove ord x a → Below ord x a
+    pick (inl e) = absurd (n (ap (λ (m : List ℕ). Some m) (sym e)))
+    pick (inr b) = b
+
+pub mark_rises : (s : WorkerState) (front : Option PlainFront) (top : Option (List ℕ)) → HasPaid s front → IsTop s.division.ord s.unread top → (latest_mark s.sent ≡ (length s.known, top) → ⊥) → MarkRises s.division.ord (latest_mark s.sent) (length s.known) top
+unfolding MarkRises
+mark_rises s front top p t n = pick (split (latest_mark s.sent).0 (length s.known) p.mark_known)
+  where
+    split : (a b : ℕ) → a ≤ b → (a < b) ⊎ (a ≡ b)
+    split a b h = omega (arith, h)
+
+    pick : ((latest_mark s.sent).0 < length s.known) ⊎ ((latest_mark s.sent).0 ≡ length s.known) → ((latest_mark s.sent).0 < length s.known) ⊎ (((latest_mark s.sent).0 ≡ length s.known) × TopFalls s.division.ord (latest_mark s.sent).1 top)
+    pick (inl h) = inl h
+    pick (inr e) = inr (e, falls_from s.division.ord s.unread (latest_mark s.sent).1 top (p.mark_top e) t (λ q. n (λ i. (e i, q i))))
+
+-- ---- steps
+-- a term is learned, and the front falls
+pub learn_pays : (s : WorkerState) (a b : Option PlainFront) (t : Term) (unread : List Term) → HasPaid s a → ((x : List ℕ) → IsPast s.division (worker_rows s) a x → IsPast s.division (worker_rows s) b x)
+    → IsPermutation (s.unread ++ row t (worker_rows s)) unread → HasPaid (record s { known = s.known ++ t ∷ []; unread = unread }) b
+unfolding worker_rows times
+learn_pays s a b t unread p falls h =
+    let G = worker_rows s in let l : length (s.known ++ t ∷ []) ≡ length s.known + 1 = length-append s.known (t ∷ []) in
+    let P : Term → Type 0 = λ u. IsPast s.division G a u.monomial in
+    let Q : Term → Type 0 = λ u. IsPast s.division G b u.monomial in
+    let first : times (s.known ++ t ∷ []) G ≡ times s.known G ++ row t G = times_append_left s.known (t ∷ []) G ∙ ap (λ (L : List Term). times s.known G ++ L) (append-nil (row t G)) in
+    let second : IsPermutation (times s.known G ++ row t G) (p.handed ++ (s.unread ++ row t G)) =
+    subst (λ (L : List Term). IsPermutation (times s.known G ++ row t G) L) (append_assoc p.handed s.unread (row t G)) (IsPermutation-append_left (row t G) (times s.known G) (p.handed ++ s.unread) p.split) in
+    record {
+      handed = p.handed;
+      split = subst (λ (L : List Term). IsPermutation L (p.handed ++ unread)) (sym first)
+          (IsPermutation-trans (times s.known G ++ row t G) (p.handed ++ (s.unread ++ row t G)) (p.handed ++ unread) second (IsPermutation-append_right p.handed (s.unread ++ row t G) unread h));
+      past = All-weaker P Q (λ u k. falls u.monomial k) p.handed p.past;
+      terms = p.terms;
+      paid = p.paid;
+      marks = p.marks;
+      spent = let k = p.spent in omega (arith, l, k);
+      marked = λ e. let k = p.spent in absurd (omega (arith, l, k, e));
+      mark_known = let k = p.mark_known in omega (arith, l, k);
+      mark_top = λ e. let k = p.mark_known in absurd (omega (arith, l, k, e));
+    }
+
+-- the front alone falls
+pub fall_pays : (s : WorkerState) (a b : Option PlainFront) → HasPaid s a → ((x : List ℕ) → IsPast s.division (worker_rows s) a x → IsPast s.division (worker_rows s) b x) → HasPaid s b
+fall_pays s a b p falls = record {
+  handed = p.handed;
+  split = p.split;
+  past = All-weaker (λ (u : Term). IsPast s.division (worker_rows s) a u.monomial) (λ (u : Term). IsPast s.division (worker_rows s) b u.monomial) (λ u k. falls u.monomial k) p.handed p.past;
+  terms = p.terms;
+  paid = p.paid;
+  marks = p.marks;
+  spent = p.spent;
+  marked = p.marked;
+  mark_known = p.mark_known;
+  mark_top = p.mark_top;
+}
+
+sum_at_short : (c : ℤ) (x : List ℕ) → length (sum_at c x) ≤ 1
+unfolding sum_at
+sum_at_short c x = pick (is_zero c)
+  where
+    pick : (b : Bool) → length (cond b [] (record { monomial = x; coefficient = c } ∷ [])) ≤ 1
+    pick true = omega arith
+    pick false = omega arith
+
+-- products at x are handed out
+pub hand_pays : (s : WorkerState) (front : Option PlainFront) (x : List ℕ) (taken unread : List Term) (c : ℤ) → HasPaid s front → IsPermutation s.unread (taken ++ unread) → All (λ (t : Term). t.monomial ≡ x) taken → 0 < length taken
+    → IsPast s.division (worker_rows s) front x → HasPaid (record s { unread = unread; kept = sum_at c x }) front
+unfolding worker_rows
+hand_pays s front x taken unread c p h at some past =
+    let G = worker_rows s in let P : Term → Type 0 = λ u. IsPast s.division G front u.monomial in
+    let l : length (p.handed ++ taken) ≡ length p.handed + length taken = length-append p.handed taken in
+    let short = sum_at_short c x in
+    let both : IsPermutation (p.handed ++ s.unread) ((p.handed ++ taken) ++ unread) =
+    subst (λ (L : List Term). IsPermutation (p.handed ++ s.unread) L) (sym (append_assoc p.handed taken unread)) (IsPermutation-append_right p.handed s.unread (taken ++ unread) h) in
+    record {
+      handed = p.handed ++ taken;
+      split = IsPermutation-trans (times s.known G) (p.handed ++ s.unread) ((p.handed ++ taken) ++ unread) p.split both;
+      past = All-append P p.handed taken p.past (All-weaker (λ (t : Term). t.monomial ≡ x) P (λ t e. subst (IsPast s.division G front) (sym e) past) taken at);
+      terms = let k = p.terms in omega (arith, l, short, k, some);
+      paid = p.paid;
+      marks = p.marks;
+      spent = let k = p.spent in omega (arith, l, k);
+      marked = λ e. let k = p.spent in absurd (omega (arith, l, k, e, some));
+      mark_known = p.mark_known;
+      mark_top = λ e. less_at_top s.division.ord (latest_mark s.sent).1 s.unread taken unread h some (p.mark_top e);
+    }
+
+-- the term that is kept is sent
+pub send_pays : (s : WorkerState) (front : Option PlainFront) (t : Term) → HasPaid s front → s.kept ≡ t ∷ [] → HasPaid (record s { kept = []; sent = s.sent ++ TermNote t ∷ [] }) front
+unfolding worker_rows terms_in
+send_pays s front t p one =
+    let mark = mark_at_term s.sent t in
+    let l : length (s.sent ++ TermNote t ∷ []) ≡ length s.sent + 1 = length-append s.sent (TermNote t ∷ []) in
+    let k : length (terms_in (s.sent ++ TermNote t ∷ [])) ≡ length (terms_in s.sent) + 1 = ap (λ (L : List Term). length L) (terms_in-append s.sent (TermNote t ∷ [])) ∙ length-append (terms_in s.sent) (t ∷ []) in
+    let o : length s.kept ≡ 1 = ap (λ (L : List Term). length L) one in record {
+      handed = p.handed;
+      split = p.split;
+      past = p.past;
+      terms = let a = p.terms in omega (arith, k, o, a);
+      paid = p.paid;
+      marks = let a = p.marks in omega (arith, k, l, a);
+      spent = p.spent;
+      marked = λ e. let m = p.marked e in record { top = m.top; mark = mark ∙ m.mark; is_top = m.is_top };
+      mark_known = subst (λ (v : ℕ × Option (List ℕ)). v.0 ≤ length s.known) (sym mark) p.mark_known;
+      mark_top = subst (λ (v : ℕ × Option (List ℕ)). v.0 ≡ length s.known → AllAtTop s.division.ord v.1 s.unread) (sym mark) p.mark_top;
+    }
+
+-- a mark that tells something new is sent
+pub mark_pays : (s : WorkerState) (front : Option PlainFront) (top : Option (List ℕ)) → HasPaid s front → s.kept ≡ [] → IsTop s.division.ord s.unread top → (latest_mark s.sent ≡ (length s.known, top) → ⊥)
+    → HasPaid (record s { sent = s.sent ++ MarkNote (length s.known) top ∷ [] }) front
+unfolding worker_rows
+mark_pays s front top p none t n =
+    let k : ℕ = length s.known in
+    let mark = mark_at_mark s.sent k top in
+    let l : length (s.sent ++ MarkNote k top ∷ []) ≡ length s.sent + 1 = length-append s.sent (MarkNote k top ∷ []) in
+    let same : length (terms_in (s.sent ++ MarkNote k top ∷ [])) ≡ length (terms_in s.sent) = ap (λ (L : List Term). length L) (terms_in-mark s.sent k top) in
+    let fresh : p.paid ≡ k + length p.handed → ⊥ = λ e. let m = p.marked e in n (m.mark ∙ (λ i. (k, one_top s.division.ord s.unread m.top top m.is_top t i))) in
+    let more : p.paid < k + length p.handed = less p.paid (k + length p.handed) p.spent fresh in record {
+      handed = p.handed;
+      split = p.split;
+      past = p.past;
+      terms = let a = p.terms in omega (arith, same, a);
+      paid = k + length p.handed;
+      marks = let a = p.marks in omega (arith, same, l, a, more);
+      spent = omega arith;
+      marked = λ e. record { top = top; mark = mark; is_top = t };
+      mark_known = subst (λ (v : ℕ × Option (List ℕ)). v.0 ≤ k) (sym mark) (omega arith);
+      mark_top = subst (λ (v : ℕ × Option (List ℕ)). v.0 ≡ k → AllAtTop s.division.ord v.1 s.unread) (sym mark) (λ e. top_at_top s.division.ord s.unread top t);
+    }
+  where
+    less : (a b : ℕ) → a ≤ b → (a ≡ b → ⊥) → a < b
+    less a b h n = omega (arith, h, n)
+
+-- ---- the count
+pub few_sent : (s : WorkerState) (front : Option PlainFront) → HasPaid s front → IsFewSent s
+few_sent s front p =
+    let G = worker_rows s in
+    let l : length (times s.known G) ≡ length p.handed + length s.unread = sym (length_permutation (times s.known G) (p.handed ++ s.unread) p.split) ∙ length-append p.handed s.unread in
+    let m : length (times s.known G) ≡ length s.known * length G = length-times s.known G in
+    count (length s.sent) (length (terms_in s.sent)) (length s.kept) p.paid (length p.handed) (length s.unread) (length s.known) (length s.known * length G) p.terms p.marks p.spent (sym l ∙ m)
+  where
+    count : (sent terms kept paid handed unread known all : ℕ) → terms + kept ≤ handed → sent ≤ terms + paid → paid ≤ known + handed → handed + unread ≡ all → sent ≤ known + 2 * all
+    count sent terms kept paid handed unread known all a b c e = omega (arith, a, b, c, e)
