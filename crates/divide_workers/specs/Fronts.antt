@@ -18,6 +18,11 @@ module _ {M : Type 0} where
   plain_front vector None = None
   plain_front vector (Some f) = Some (front_of vector f)
 
+-- where it stands
+abbrev pub front_mono : Option PlainFront → Option (List ℕ)
+front_mono None = None
+front_mono (Some f) = Some f.mono
+
 -- the first monomial is below the second, or it may be at it where the front is strict
 unfoldable pub IsPastBy : Bool → Order → List ℕ → List ℕ → Type 0
 IsPastBy false ord a b = Below ord a b
@@ -37,11 +42,6 @@ IsAhead d (Some f) later = UnderBy f.is_strict d f.mono later
 unfoldable pub IsPast : Division → List Term → Option PlainFront → List ℕ → Type 0
 IsPast d rows None x = ⊥
 IsPast d rows (Some f) x = IsPastBy f.is_strict d.ord (f.mono ⋅ lm rows) (x ⋅ lm d.g)
-
--- x*lm(g) is at the front times the first row or below; each monomial counts as below a front that isn't there
-unfoldable pub IsHeld : Division → List Term → Option PlainFront → List ℕ → Type 0
-IsHeld d rows None x = Unit {0}
-IsHeld d rows (Some f) x = AtOrAbove d.ord (x ⋅ lm d.g) (f.mono ⋅ lm rows)
 
 -- a front that was strict may stand where it stood only if it still is
 abbrev pub may_stay : Bool → Bool → Bool

@@ -1,20 +1,65 @@
 -- The fields of a dividing worker, and what they keep.
-use Rattle.std.specs.Prelude.{◌≡◌, ℕ, ◌+◌, ℤ, List, length, Option, Some, None}
+use Rattle.std.specs.Prelude.{◌≡◌, ℕ, ◌+◌, ℤ, List, [], ◌∷◌, length, Option, Some, None}
 use Rattle.sdmp_laws.specs.Order.{Order}
-use Rattle.sdmp_laws.specs.Poly.{lm}
+use Rattle.sdmp_laws.specs.Poly.{Term, lm}
+use Rattle.whole_laws.specs.Notes.{Script, ProductScript, QuotientScript}
 use Rattle.divide_wholes.specs.Row.{row_terms}
 use Rattle.divide_wholes.specs.Wholes.{latest_mark}
-use Rattle.divide_wholes.specs.Workers.{worker_rows}
+use Rattle.divide_wholes.specs.Workers.{WorkerState, worker_rows}
+use Rattle.canonical_terms.specs.View.{term_of}
 use Rattle.canonical_terms.specs.declared.term.TermOf.{TermOf}
 use Rattle.row_merge.specs.Learned.{QuotientState}
-use Rattle.term_ring.specs.Names.{IsWriting}
+use Rattle.term_ring.specs.Spelling.{notes_of}
+use Rattle.term_ring.specs.Ends.{sent, head_seen, full_looks}
+use Rattle.term_ring.specs.Names.{writer_name, IsWriting}
 use Rattle.term_ring.specs.declared.ring.Writer.{Writer}
+use Rattle.quotient_row.specs.Spelling.{notes_of as row_notes_of}
+use Rattle.quotient_row.specs.Ends.{known, count_seen, count_loads, told_published}
 use Rattle.quotient_row.specs.declared.row.RowReader.{RowReader}
-use Rattle.divide_merge.specs.Names.{IsLooking}
-use Rattle.divide_workers.specs.Views.{WorkerView, view_of}
+use Rattle.divide_merge.specs.Names.{script_division, reader_row, IsLooking}
+use Rattle.divide_workers.specs.Fronts.{plain_front}
+use Rattle.divide_workers.specs.Views.{WorkerView}
 use Rattle.divide_workers.specs.Working.{IsWorking}
 use Rattle.divide_workers.specs.declared.front.Front.{Front}
 use Rattle.divide_workers.specs.declared.mark.Mark.{Mark}
+
+-- how many workers a script is one of
+abbrev pub script_workers : Script → ℕ
+script_workers (ProductScript m W w) = W
+script_workers (QuotientScript d W w) = W
+
+module _ {X M E : Type 0} (vector : M → List ℕ) (value : E → ℤ) where
+  abbrev pub kept_terms : Option (TermOf M E) → List Term
+  kept_terms None = []
+  kept_terms (Some t) = term_of vector value t ∷ []
+
+  abbrev pub state_of : ℕ → QuotientState → Writer X M E → Option (TermOf M E) → WorkerState
+  state_of worker rows writer kept =
+      record {
+        division = script_division (writer_name writer).script;
+        workers = script_workers (writer_name writer).script;
+        worker = worker;
+        known = rows.learned;
+        unread = rows.unread;
+        kept = kept_terms kept;
+        sent = notes_of vector value (sent writer);
+      }
+
+  abbrev pub view_of : ℕ → QuotientState → Writer X M E → RowReader X M E → Option (Front M) → Option (TermOf M E) → WorkerView
+  view_of worker rows writer reader front kept =
+      record {
+        state = state_of worker rows writer kept;
+        ring = writer_name writer;
+        head = head_seen writer;
+        full_looks = full_looks writer;
+        row = reader_row reader;
+        notes = row_notes_of vector value (known reader);
+        count = count_seen reader;
+        loads = count_loads reader;
+        told = row_notes_of vector value (told_published reader);
+        front = plain_front vector front;
+        spare = rows.spare;
+      }
 
 -- a mark as plain data
 abbrev pub mark_of : {M : Type 0} → (M → List ℕ) → Mark M → ℕ × Option (List ℕ)

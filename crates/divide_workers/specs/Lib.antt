@@ -1,4 +1,5 @@
 pub mod Fronts
+pub mod Paying
 pub mod Views
 pub mod Working
 pub mod Inside

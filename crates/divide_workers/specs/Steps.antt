@@ -1,13 +1,13 @@
 -- What the steps of a dividing worker change.
-use Rattle.std.specs.Prelude.{◌≡◌, ◌≢◌, ◌⊎◌, ℕ, ◌+◌, ◌≤◌, ◌<◌, List, [], length, Option, Some, None}
+use Rattle.std.specs.Prelude.{◌≡◌, ◌⊎◌, ℕ, ◌+◌, ◌≤◌, ◌<◌, List, [], length, Option}
 use mathlib.Core.List.{IsPrefix}
 use Rattle.divide_wholes.specs.Row.{row_terms}
 use Rattle.divide_wholes.specs.Workers.{IsTop, worker_rows}
 use Rattle.term_ring.specs.Sending.{Sends}
 use Rattle.term_ring.specs.Views.{Comparable}
-use Rattle.divide_workers.specs.Fronts.{FrontFalls, IsHeld}
+use Rattle.dividing_rounds.specs.Stalls.{IsHeld}
+use Rattle.divide_workers.specs.Fronts.{FrontFalls, front_mono}
 use Rattle.divide_workers.specs.Views.{WorkerView, sender_of}
-use Rattle.divide_workers.specs.Working.{IsMarked}
 
 -- it learned terms, all those that it knows of the row or none, handed out products and sent notes
 pub record Works (a b : WorkerView) : Type 0 where
@@ -31,7 +31,7 @@ pub record FindsNothing (a b : WorkerView) : Type 0 where
   pub loads : a.loads < b.loads
   pub count : b.count ≡ length b.notes
 
--- it may send none of its products: the greatest is at its front times the first row or below
+-- it keeps no term, and may send none of its products: the greatest, times lm(g), is at its front times the first row or below
 pub record HoldsBack (v : WorkerView) : Type 0 where
   pub kept : v.state.kept ≡ []
-  pub held : (top : List ℕ) → IsTop v.state.division.ord v.state.unread (Some top) → IsHeld v.state.division (worker_rows v.state) v.front top
+  pub held : (top : Option (List ℕ)) → IsTop v.state.division.ord v.state.unread top → IsHeld v.state.division (worker_rows v.state) (front_mono v.front) top

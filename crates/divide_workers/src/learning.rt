@@ -6,7 +6,7 @@ ghost use Rattle.sdmp_laws.specs.Limits.{PassesBound};
 ghost use Rattle.canonical_terms.specs.View.{term_of};
 ghost use Rattle.divide_merge.specs.Names.{row_identity};
 ghost use Rattle.divide_workers.specs.Views.{sender_of};
-ghost use Rattle.divide_workers.specs.Working.{HasRows};
+ghost use Rattle.divide_workers.specs.Paying.{HasRows};
 ghost use Rattle.divide_workers.specs.Steps.{Works, FindsNothing};
 
 use crate::front::{Front, lower};
@@ -20,17 +20,21 @@ use step_count::Steps;
 use term_ring::Ring;
 
 impl<R: CoeffRing, M: Monomial> Sender<'_, R, M> {
-    /// Learns the next quotient term; none to come is above it.
-    fn learn(&mut self, term: Term<R, M>, steps: &mut Steps) {
-        self.rows.learn(term, steps);
+    /// The quotient terms to come are at this front or below.
+    fn lower(&mut self, news: Front<M>, steps: &mut Steps) {
+        self.front = Some(lower(self.front, news, steps));
+    }
+
+    /// The quotient terms to come are below this one.
+    fn stay_below(&mut self, term: Term<R, M>, steps: &mut Steps) {
         let news = Front {
             mono: term.mono.times(self.lead),
             is_strict: true,
         };
-        self.front = Some(lower(self.front, news, steps));
+        self.lower(news, steps);
     }
 
-    /// Looks at the row once, and learns the note that it finds there. A term that it knows already tells nothing.
+    /// Looks at the row once, and learns the note that it finds there. A term that it knows already isn't learned again.
     pub fn look(&mut self, row: &Row<R, M>, steps: &mut Steps) -> bool
         requires row { self.old.row ≡ row_identity row.now }
         requires rows { HasRows self.old.state }
@@ -46,16 +50,17 @@ impl<R: CoeffRing, M: Monomial> Sender<'_, R, M> {
         match note {
             RowNoteOf::Term(term) => {
                 if self.place == self.rows.known() {
-                    self.learn(term, steps);
+                    self.rows.learn(term, steps);
                 }
                 self.place += 1;
+                self.stay_below(term, steps);
             }
             RowNoteOf::Front(mono) => {
                 let news = Front {
                     mono,
                     is_strict: false,
                 };
-                self.front = Some(lower(self.front, news, steps));
+                self.lower(news, steps);
             }
         }
         true
@@ -81,14 +86,15 @@ impl<R: CoeffRing, M: Monomial> Sender<'_, R, M> {
         }
         let mut steps = Steps::new();
         for k in self.rows.known() as usize..q.len() {
-            self.learn(q[k], &mut steps);
+            self.rows.learn(q[k], &mut steps);
+            self.stay_below(q[k], &mut steps);
         }
         if let Some(mono) = front {
             let news = Front {
                 mono,
                 is_strict: false,
             };
-            self.front = Some(lower(self.front, news, &mut steps));
+            self.lower(news, &mut steps);
         }
     }
 

@@ -6,8 +6,9 @@ ghost use Rattle.term_ring.specs.Ends.{sent, head_seen, full_looks};
 ghost use Rattle.term_ring.specs.Names.{writer_name, IsWriting};
 ghost use Rattle.quotient_row.specs.Ends.{IsNew};
 ghost use Rattle.divide_merge.specs.Names.{IsFit, IsLooking, reader_row};
-ghost use Rattle.divide_workers.specs.Views.{view_of, script_workers};
-ghost use Rattle.divide_workers.specs.Working.{IsWorking, HasRows, IsFewSent};
+ghost use Rattle.divide_workers.specs.Inside.{view_of, script_workers};
+ghost use Rattle.divide_workers.specs.Paying.{HasRows, IsFewSent};
+ghost use Rattle.divide_workers.specs.Working.{IsWorking};
 
 use crate::front::Front;
 use crate::mark::Mark;
@@ -40,8 +41,8 @@ pub struct Sender<'a, R: CoeffRing, M: Monomial> {
 }
 
 impl<'a, R: CoeffRing, M: Monomial> Model for Sender<'a, R, M> {
-    ghost use Rattle.divide_workers.specs.Views.{WorkerView, view_of};
-    ghost use Rattle.divide_workers.specs.Inside.{IsSender};
+    ghost use Rattle.divide_workers.specs.Views.{WorkerView};
+    ghost use Rattle.divide_workers.specs.Inside.{view_of, IsSender};
 
     ghost Value = { WorkerView };
 

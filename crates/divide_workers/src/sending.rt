@@ -3,7 +3,7 @@ ghost use Rattle.std.specs.Prelude.{◌≡◌, ◌≢◌, ◌≤◌, ◌<◌, �
 ghost use Rattle.term_ring.specs.Names.{ring_name};
 ghost use Rattle.term_ring.specs.Sending.{IsRefused, WasRefused};
 ghost use Rattle.divide_workers.specs.Views.{sender_of};
-ghost use Rattle.divide_workers.specs.Working.{IsMarked};
+ghost use Rattle.divide_workers.specs.Paying.{IsMarked};
 ghost use Rattle.divide_workers.specs.Steps.{Works, HoldsBack};
 
 use crate::front::{Front, is_past};
