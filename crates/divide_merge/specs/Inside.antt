@@ -1,14 +1,13 @@
 -- The fields of a merge of a division, and what they keep.
 use Rattle.std.specs.Prelude.{◌≡◌, ◌⊎◌, ◌↔◌, ℕ, ◌+◌, ◌<◌, ◌≤◌, ◌^◌, ℤ, min, List, [], length, map, drop, All, Option, Some, None, IfSome, slice_index_or}
+use Rattle.std.specs.Option.{is_some}
 use Rattle.sdmp_laws.specs.Order.{Order}
 use Rattle.sdmp_laws.specs.Poly.{Term, norm}
 use Rattle.sdmp_laws.specs.Canonical.{Polynomial}
-use Rattle.sdmp_laws.specs.Division.{AtOrAbove}
 use Rattle.whole_laws.specs.Notes.{Note}
 use Rattle.whole_laws.specs.Wholes.{notes_of as notes_at}
 use Rattle.divide_wholes.specs.Row.{RowNote, row_terms}
-use Rattle.divide_wholes.specs.Wholes.{DivideState, DivideWhole, latest_mark}
-use Rattle.divide_wholes.specs.MergeRow.{HasRow}
+use Rattle.divide_wholes.specs.Wholes.{DivideState, latest_mark}
 use Rattle.canonical_terms.specs.View.{sum_of}
 use Rattle.canonical_terms.specs.declared.term.TermOf.{TermOf}
 use Rattle.term_ring.specs.Spelling.{notes_of}
@@ -22,7 +21,8 @@ use Rattle.quotient_row.specs.Spelling.{notes_of as row_notes_of}
 use Rattle.quotient_row.specs.Ends.{published}
 use Rattle.quotient_row.specs.declared.row.RowWriter.{RowWriter}
 use Rattle.divide_merge.specs.Names.{writer_row, IsPublishing, first_division, HasScripts, IsFit}
-use Rattle.divide_merge.specs.Runs.{DivideRun, IsCounted, Verdict, IsVerdict, IsFinal}
+use Rattle.dividing_rounds.specs.Runs.{DivideRun, RunWhole}
+use Rattle.divide_merge.specs.Verdicts.{Verdict, IsVerdict, IsFinal}
 use Rattle.divide_merge.specs.Divisors.{IsDivisor}
 use Rattle.divide_merge.specs.Merges.{DivideView, verdict_of, free_places}
 use Rattle.divide_merge.specs.declared.answer.DivideAdvanceOf.{DivideAdvanceOf}
@@ -55,9 +55,9 @@ module _ {M : Type 0} where
   vector_of vector (Some m) = Some (vector m)
 
 module _ {M E : Type 0} where
-  abbrev pub over_of : (M → List ℕ) → (E → ℤ) → Option (DivideAdvanceOf M E) → Option Verdict
-  over_of vector value None = None
-  over_of vector value (Some x) = Some (verdict_of vector value x)
+  abbrev pub answer_of : (M → List ℕ) → (E → ℤ) → Option (DivideAdvanceOf M E) → Option Verdict
+  answer_of vector value None = None
+  answer_of vector value (Some x) = Some (verdict_of vector value x)
 
   -- no worker of a division ends
   abbrev pub NotEnded : HeadOf M E → Type 0
@@ -94,15 +94,16 @@ module _ {X M E : Type 0} (vector : M → List ℕ) (value : E → ℤ) where
       record {
         state = divide_state h;
         notes = published_notes h.writer;
-        fronts = h.fronts;
-        processed = h.processed;
-        over = over_of vector value h.over;
+        fronts_count = h.fronts;
+        processed_count = h.processed;
+        over = is_some (answer_of vector value h.over);
       }
 
   abbrev pub divide_view : Held X M E → DivideView
   divide_view h =
       record {
         run = divide_run h;
+        answer = answer_of vector value h.over;
         spare = h.spare;
         rings = map reader_name h.readers;
         tails = map tail_seen h.readers;
@@ -117,11 +118,9 @@ pub record IsLatest {M : Type 0} (vector : M → List ℕ) (m : Mark M) (latest 
 
 -- what a merge keeps, with room for so many terms of the quotient and of the remainder
 pub record IsDivideMerge {X M E : Type 0} (vector : M → List ℕ) (value : E → ℤ) (belongs : ℕ → E → Type 0) (ord : Order) (n lim p quotient_room rest_room : ℕ) (h : Held X M E) : Type 0 where
-  pub whole : DivideWhole (divide_state vector value h)
-  pub row_is : HasRow (divide_state vector value h) (published_notes vector value h.writer)
-  pub counted : IsCounted (divide_run vector value h)
+  pub whole : RunWhole (divide_run vector value h)
   pub begun : vector_of vector h.front ≡ None ↔ (length h.found + h.fronts ≡ 0)
-  pub over : IfSome (over_of vector value h.over) (λ x. IsFinal x × IsVerdict (divide_state vector value h) (free_places (divide_view vector value h)) h.spare x)
+  pub cause : IfSome (answer_of vector value h.over) (λ x. IsFinal x × IsVerdict (divide_state vector value h) (free_places (divide_view vector value h)) h.spare x)
   pub scripts : HasScripts (first_division (map reader_name h.readers)) (map reader_name h.readers)
   pub fit : IsFit lim (first_division (map reader_name h.readers))
   pub ordered : (first_division (map reader_name h.readers)).ord ≡ ord

@@ -1,7 +1,9 @@
-pub mod Runs
+pub mod Verdicts
 pub mod Names
 pub mod Divisors
 pub mod Merges
+pub mod Reading
+pub mod Steps
 pub mod Inside
 pub mod Reached
 pub mod Moments

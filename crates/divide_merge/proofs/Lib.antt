@@ -1,0 +1,3 @@
+pub mod MomentLemmas
+pub mod Following
+pub mod OneAnswer
