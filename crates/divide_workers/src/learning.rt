@@ -1,39 +1,89 @@
 //! How a dividing worker learns from the row.
-ghost use Rattle.std.specs.Prelude.{◌≡◌, ◌≢◌, ◌≤◌, ◌<◌, ◌↔◌, ◌+◌, length, max, IsTrue, false, ◌++◌, ◌∷◌, []};
+ghost use Rattle.std.specs.Prelude.{◌≡◌, ◌≢◌, ◌≤◌, ◌+◌, length, All, vec_len, IsTrue, false};
 ghost use mathlib.Core.List.{IsPrefix};
 ghost use Rattle.sdmp_laws.specs.LongDivision.{quotient_list};
 ghost use Rattle.sdmp_laws.specs.Limits.{PassesBound};
-ghost use Rattle.canonical_terms.specs.View.{term_of};
-ghost use Rattle.divide_merge.specs.Names.{row_identity};
+ghost use Rattle.canonical_terms.specs.View.{sum_of};
+ghost use Rattle.quotient_row.specs.Ends.{known};
+ghost use Rattle.divide_merge.specs.Names.{IsLooking, row_identity, reader_row};
 ghost use Rattle.divide_workers.specs.Views.{sender_of};
 ghost use Rattle.divide_workers.specs.Paying.{HasRows};
 ghost use Rattle.divide_workers.specs.Steps.{Works, FindsNothing};
+ghost use Rattle.divide_workers.specs.Learning.{CanLearn, LearnsOnce, CanTakeIn, TakesIn};
 
-use crate::front::{Front, lower};
+use crate::front::{Front, lower, no_higher};
 use crate::sender::Sender;
 use canonical_terms::Term;
 use coeff_ring::CoeffRing;
 use divide_merge::DivideMerge;
 use packed_monomial::Monomial;
-use quotient_row::{Row, RowNoteOf, RowReader};
+use quotient_row::{Row, RowNote, RowNoteOf, RowReader};
+use row_merge::QuotientRows;
 use step_count::Steps;
 use term_ring::Ring;
 
-impl<R: CoeffRing, M: Monomial> Sender<'_, R, M> {
-    /// The quotient terms to come are at this front or below.
-    fn lower(&mut self, news: Front<M>, steps: &mut Steps) {
-        self.front = Some(lower(self.front, news, steps));
+// learns the term with this number in the quotient, unless it is known
+fn learn_once<R: CoeffRing, M: Monomial>(
+    rows: &mut QuotientRows<'_, R, M>,
+    place: u64,
+    term: Term<R, M>,
+    steps: &mut Steps,
+)
+    requires { CanLearn M.vector R.value R.belongs M.order M.LIM rows.old place term }
+    ensures { LearnsOnce M.vector R.value rows.old rows.new place term }
+{
+    if place == rows.known() {
+        rows.learn(term, steps);
     }
+}
 
-    /// The quotient terms to come are below this one.
-    fn stay_below(&mut self, term: Term<R, M>, steps: &mut Steps) {
+// what a note of the row tells of the quotient terms to come; a term is learned, unless it is known
+fn take_in<R: CoeffRing, M: Monomial>(
+    rows: &mut QuotientRows<'_, R, M>,
+    place: &mut u64,
+    lead: M,
+    note: RowNote<R, M>,
+    steps: &mut Steps,
+) -> Front<M>
+    requires { CanTakeIn M.vector R.value R.belongs M.order M.LIM rows.old place.old lead note }
+    ensures { TakesIn M.vector R.value rows.old rows.new place.old place.new lead note result }
+{
+    match note {
+        RowNoteOf::Term(term) => {
+            learn_once(rows, *place, term, steps);
+            *place += 1;
+            Front {
+                mono: term.mono.times(lead),
+                is_strict: true,
+            }
+        }
+        RowNoteOf::Front(mono) => Front {
+            mono,
+            is_strict: false,
+        },
+    }
+}
+
+// learns the terms of the quotient that aren't known; none to come is above the last, or the front
+fn learn_rest<R: CoeffRing, M: Monomial>(
+    rows: &mut QuotientRows<'_, R, M>,
+    front: &mut Option<Front<M>>,
+    lead: M,
+    q: &[Term<R, M>],
+) {
+    let mut steps = Steps::new();
+    for k in rows.known() as usize..q.len() {
+        let term = q[k];
+        rows.learn(term, &mut steps);
         let news = Front {
-            mono: term.mono.times(self.lead),
+            mono: term.mono.times(lead),
             is_strict: true,
         };
-        self.lower(news, steps);
+        *front = Some(lower(*front, news, &mut steps));
     }
+}
 
+impl<R: CoeffRing, M: Monomial> Sender<'_, R, M> {
     /// Looks at the row once, and learns the note that it finds there. A term that it knows already isn't learned again.
     pub fn look(&mut self, row: &Row<R, M>, steps: &mut Steps) -> bool
         requires row { self.old.row ≡ row_identity row.now }
@@ -47,22 +97,8 @@ impl<R: CoeffRing, M: Monomial> Sender<'_, R, M> {
         let Ok(note) = self.reader.look(row) else {
             return false;
         };
-        match note {
-            RowNoteOf::Term(term) => {
-                if self.place == self.rows.known() {
-                    self.rows.learn(term, steps);
-                }
-                self.place += 1;
-                self.stay_below(term, steps);
-            }
-            RowNoteOf::Front(mono) => {
-                let news = Front {
-                    mono,
-                    is_strict: false,
-                };
-                self.lower(news, steps);
-            }
-        }
+        let news = take_in(&mut self.rows, &mut self.place, self.lead, note, steps);
+        self.front = Some(lower(self.front, news, steps));
         true
     }
 
@@ -79,23 +115,12 @@ impl<R: CoeffRing, M: Monomial> Sender<'_, R, M> {
 
     /// Learns the terms of the quotient that it doesn't know yet, takes over the front where that is lower, and looks at the reader's row from now on, which starts after the quotient. A worker without rows learns nothing.
     pub fn catch_up(&mut self, q: &[Term<R, M>], front: Option<M>, reader: RowReader<R, M>) {
-        self.reader = reader;
+        if self.has_rows() {
+            learn_rest(&mut self.rows, &mut self.front, self.lead, q);
+            self.front = no_higher(self.front, front, &mut Steps::new());
+        }
         self.place = q.len() as u64;
-        if !self.has_rows() {
-            return;
-        }
-        let mut steps = Steps::new();
-        for k in self.rows.known() as usize..q.len() {
-            self.rows.learn(q[k], &mut steps);
-            self.stay_below(q[k], &mut steps);
-        }
-        if let Some(mono) = front {
-            let news = Front {
-                mono,
-                is_strict: false,
-            };
-            self.lower(news, &mut steps);
-        }
+        self.reader = reader;
     }
 
     /// Lets its ends of the ring and of the row meet those of the merge.
