@@ -14,7 +14,8 @@ use Rattle.whole_laws.proofs.NotesLemmas.{terms_in-append, terms_in-mark}
 use Rattle.divide_wholes.specs.Wholes.{mark_after, latest_mark}
 use Rattle.divide_wholes.specs.Workers.{WorkerState, MarkRises, IsTop, worker_rows, sum_at}
 use Rattle.divide_workers.specs.Fronts.{PlainFront, IsPast}
-use Rattle.dividing_rounds.specs.Counting.{NotesCounted, handed_out, CountStart, CountLearn, CountHand, CountSend, CountMark}
+use Rattle.dividing_rounds.specs.Counting.{NotesCounted, handed_out}
+use Rattle.dividing_rounds.proofs.CountingLemmas.{count_start, count_learn, count_hand, count_send, count_mark, counted_sent}
 use Rattle.divide_workers.specs.Paying.{AllAtTop, HasPaid, IsFewSent}
 
 -- ---- the latest mark
@@ -107,131 +108,9 @@ mark_rises s front top p t n = pick (split (latest_mark s.sent).0 (length s.know
     pick (inl h) = inl h
     pick (inr e) = inr (e, falls_from s.division.ord s.unread (latest_mark s.sent).1 top (p.mark_top e) t (λ q. n (λ i. (e i, q i))))
 
--- ---- the count of notes
-one_more : (k r u v : ℕ) → u ≤ k * r → v ≡ u + r → (v ≤ (k + 1) * r) × ((k + 1) * r - v ≡ k * r - u)
-one_more k r u v h e = let m = times_more k r in (omega (arith, h, e, m), omega (arith, h, e, m))
-  where
-    times_more : (a b : ℕ) → (a + 1) * b ≡ a * b + b
-    times_more a b = omega arith
-
-pub count_start : CountStart
-unfolding handed_out worker_rows terms_in latest_mark mark_after IsTop
-count_start d W w = record {
-  holds = omega arith;
-  terms = omega arith;
-  marks = omega arith;
-  paid_before = omega arith;
-  unchanged = λ e. (refl, refl);
-}
-
-pub count_learn : CountLearn
-unfolding handed_out worker_rows
-count_learn v paid t unread c h =
-    let r : ℕ = length (worker_rows v) in
-    let k : length (v.known ++ t ∷ []) ≡ length v.known + 1 = length-append v.known (t ∷ []) in
-    let u : length unread ≡ length v.unread + r = length_permutation (v.unread ++ row t (worker_rows v)) unread h ∙ length-append v.unread (row t (worker_rows v)) ∙ ap (λ (n : ℕ). length v.unread + n) (length-row t (worker_rows v)) in
-    let m = one_more (length v.known) r (length v.unread) (length unread) c.holds u in
-    let same : length (v.known ++ t ∷ []) * r - length unread ≡ length v.known * r - length v.unread = ap (λ (n : ℕ). n * r - length unread) k ∙ m.1 in
-    let before = c.paid_before in
-    record {
-      holds = subst (λ (n : ℕ). length unread ≤ n * r) (sym k) m.0;
-      terms = subst (λ (n : ℕ). length (terms_in v.sent) + length v.kept ≤ n) (sym same) c.terms;
-      marks = c.marks;
-      paid_before = later (length v.known * r - length v.unread) (length (v.known ++ t ∷ []) * r - length unread) (length v.known) (length (v.known ++ t ∷ [])) same k before;
-      unchanged = λ e. absurd (never (length v.known * r - length v.unread) (length (v.known ++ t ∷ []) * r - length unread) (length v.known) (length (v.known ++ t ∷ [])) same k before e);
-    }
-  where
-    later : (a b j k : ℕ) → b ≡ a → k ≡ j + 1 → paid ≤ j + a → paid ≤ k + b
-    later a b j k e f h = omega (arith, e, f, h)
-
-    never : (a b j k : ℕ) → b ≡ a → k ≡ j + 1 → paid ≤ j + a → paid ≡ k + b → ⊥
-    never a b j k e f h z = omega (arith, e, f, h, z)
-
-sum_at_short : (c : ℤ) (x : List ℕ) → length (sum_at c x) ≤ 1
-unfolding sum_at
-sum_at_short c x = pick (is_zero c)
-  where
-    pick : (b : Bool) → length {A = Term} (cond b [] (record { monomial = x; coefficient = c } ∷ [])) ≤ 1
-    pick true = omega arith
-    pick false = omega arith
-
 pub some_length : {X : Type 0} (xs : List X) → xs ≢ [] → 0 < length xs
 some_length [] n = absurd (n refl)
 some_length (x ∷ xs) n = omega arith
-
-pub count_hand : CountHand
-unfolding handed_out worker_rows
-count_hand v paid c x taken unread n none some h =
-    let short = sum_at_short c x in let t = some_length taken some in
-    let u : length taken + length unread ≡ length v.unread = sym (length-append taken unread) ∙ length_permutation v.unread (taken ++ unread) h in
-    let all : ℕ = length v.known * length (worker_rows v) in
-    let a = n.holds in let b = n.terms in let e = n.paid_before in
-    record {
-      holds = holds all (length v.unread) (length taken) (length unread) a u;
-      terms = terms all (length v.unread) (length taken) (length unread) (length (sum_at c x)) (length (terms_in v.sent)) (length v.kept) a u short t b;
-      marks = n.marks;
-      paid_before = before all (length v.unread) (length taken) (length unread) (length v.known) a u e;
-      unchanged = λ z. absurd (never all (length v.unread) (length taken) (length unread) (length v.known) a u t e z);
-    }
-  where
-    holds : (all old taken new : ℕ) → old ≤ all → taken + new ≡ old → new ≤ all
-    holds all old taken new a u = omega (arith, a, u)
-
-    terms : (all old taken new kept sent was : ℕ) → old ≤ all → taken + new ≡ old → kept ≤ 1 → 0 < taken → sent + was ≤ all - old → sent + kept ≤ all - new
-    terms all old taken new kept sent was a u s t b = omega (arith, a, u, s, t, b)
-
-    before : (all old taken new k : ℕ) → old ≤ all → taken + new ≡ old → paid ≤ k + (all - old) → paid ≤ k + (all - new)
-    before all old taken new k a u e = omega (arith, a, u, e)
-
-    never : (all old taken new k : ℕ) → old ≤ all → taken + new ≡ old → 0 < taken → paid ≤ k + (all - old) → paid ≡ k + (all - new) → ⊥
-    never all old taken new k a u t e z = omega (arith, a, u, t, e, z)
-
-pub count_send : CountSend
-unfolding handed_out worker_rows terms_in
-count_send v paid t n one =
-    let l : length (v.sent ++ TermNote t ∷ []) ≡ length v.sent + 1 = length-append v.sent (TermNote t ∷ []) in
-    let k : length (terms_in (v.sent ++ TermNote t ∷ [])) ≡ length (terms_in v.sent) + 1 = ap (λ (L : List Term). length L) (terms_in-append v.sent (TermNote t ∷ [])) ∙ length-append (terms_in v.sent) (t ∷ []) in
-    let o : length v.kept ≡ 1 = ap (λ (L : List Term). length L) one in
-    record {
-      holds = n.holds;
-      terms = terms (length (terms_in v.sent)) (length v.kept) (length (terms_in (v.sent ++ TermNote t ∷ []))) (length v.known * length (worker_rows v) - length v.unread) k o n.terms;
-      marks = let a = n.marks in omega (arith, k, l, a);
-      paid_before = n.paid_before;
-      unchanged = λ e. subst (λ (m : ℕ × Option (List ℕ)). (m.0 ≡ length v.known) × IsTop v.division.ord v.unread m.1) (sym (mark_at_term v.sent t)) (n.unchanged e);
-    }
-  where
-    terms : (a kept b all : ℕ) → b ≡ a + 1 → kept ≡ 1 → a + kept ≤ all → b + 0 ≤ all
-    terms a kept b all k o h = omega (arith, k, o, h)
-
-pub count_mark : CountMark
-unfolding handed_out worker_rows TopFalls MarkRises
-count_mark v paid top n t r =
-    let k : ℕ = length v.known in let all : ℕ = k * length (worker_rows v) - length v.unread in
-    let mark = mark_at_mark v.sent k top in
-    let l : length (v.sent ++ MarkNote k top ∷ []) ≡ length v.sent + 1 = length-append v.sent (MarkNote k top ∷ []) in
-    let same : length (terms_in (v.sent ++ MarkNote k top ∷ [])) ≡ length (terms_in v.sent) = ap (λ (L : List Term). length L) (terms_in-mark v.sent k top) in
-    record {
-      holds = n.holds;
-      terms = subst (λ (m : ℕ). m + length v.kept ≤ all) (sym same) n.terms;
-      marks = marks (length v.sent) (length (terms_in v.sent)) (length (v.sent ++ MarkNote k top ∷ [])) (length (terms_in (v.sent ++ MarkNote k top ∷ []))) (k + all) l same n.marks n.paid_before (fresh (k + all) n.unchanged);
-      paid_before = omega arith;
-      unchanged = λ e. (ap (λ (m : ℕ × Option (List ℕ)). m.0) mark, subst (λ (m : ℕ × Option (List ℕ)). IsTop v.division.ord v.unread m.1) (sym mark) t);
-    }
-  where
-    -- the mark rises, so the state isn't that of the latest one
-    fresh : (now : ℕ) → (paid ≡ now → ((latest_mark v.sent).0 ≡ length v.known) × IsTop v.division.ord v.unread (latest_mark v.sent).1) → paid ≡ now → ⊥
-    fresh now same e = let s = same e in stays (latest_mark v.sent) s.0 (one_top v.division.ord v.unread (latest_mark v.sent).1 top s.1 t) r
-      where
-        falls_not : (ord : Order) (a : Option (List ℕ)) → TopFalls ord a a → ⊥
-        falls_not ord None f = f
-        falls_not ord (Some m) f = (order_facts ord).irreflexive m f
-
-        stays : (old : ℕ × Option (List ℕ)) → old.0 ≡ length v.known → old.1 ≡ top → MarkRises v.division.ord old (length v.known) top → ⊥
-        stays old e f (inl h) = omega (arith, e, h)
-        stays old e f (inr h) = falls_not v.division.ord top (subst (λ (a : Option (List ℕ)). TopFalls v.division.ord a top) f h.1)
-
-    marks : (sent terms sent' terms' now : ℕ) → sent' ≡ sent + 1 → terms' ≡ terms → sent ≤ terms + paid → paid ≤ now → (paid ≡ now → ⊥) → sent' ≤ terms' + now
-    marks sent terms sent' terms' now l s a b n = omega (arith, l, s, a, b, n)
 
 -- ---- steps
 -- a term is learned, and the front falls
@@ -330,10 +209,4 @@ start_pays d W w = record {
 
 -- ---- the count
 pub few_sent : (s : WorkerState) (front : Option PlainFront) → HasPaid s front → IsFewSent s
-unfolding handed_out
-few_sent s front p =
-    let c = p.counted in
-    count (length s.sent) (length (terms_in s.sent)) (length s.kept) p.paid (length s.unread) (length s.known) (length s.known * length (worker_rows s)) c.terms c.marks c.paid_before
-  where
-    count : (sent terms kept paid unread known all : ℕ) → terms + kept ≤ all - unread → sent ≤ terms + paid → paid ≤ known + (all - unread) → sent ≤ known + 2 * all
-    count sent terms kept paid unread known all a b c = omega (arith, a, b, c)
+few_sent s front p = counted_sent s p.paid p.counted

@@ -16,7 +16,7 @@ use Rattle.divide_workers.proofs.Falling.{falls_itself, falls_again}
 prefix_again : {A : Type 0} (xs ys zs : List A) → IsPrefix xs ys → IsPrefix ys zs → IsPrefix xs zs
 prefix_again xs ys zs p q = (p.0 ++ q.0, sym (append_assoc xs p.0 q.0) ∙ (ap (λ l. l ++ q.0) p.1 ∙ q.1))
 
-more_terms : (a b : List RowNote) → IsPrefix a b → length (row_terms a) ≤ length (row_terms b)
+pub more_terms : (a b : List RowNote) → IsPrefix a b → length (row_terms a) ≤ length (row_terms b)
 more_terms a b p =
     let e : row_terms b ≡ row_terms a ++ row_terms p.0 = ap row_terms (sym p.1) ∙ row_terms-append a p.0 in
     let l : length (row_terms b) ≡ length (row_terms a) + length (row_terms p.0) = ap (λ (L : List Term). length L) e ∙ length-append (row_terms a) (row_terms p.0) in omega (arith, l)

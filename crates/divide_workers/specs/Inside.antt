@@ -2,7 +2,6 @@
 use Rattle.std.specs.Prelude.{◌≡◌, ℕ, ◌+◌, ℤ, List, [], ◌∷◌, length, Option, Some, None}
 use Rattle.sdmp_laws.specs.Order.{Order}
 use Rattle.sdmp_laws.specs.Poly.{Term, lm}
-use Rattle.whole_laws.specs.Notes.{Script, ProductScript, QuotientScript}
 use Rattle.divide_wholes.specs.Row.{row_terms}
 use Rattle.divide_wholes.specs.Wholes.{latest_mark}
 use Rattle.divide_wholes.specs.Workers.{WorkerState, worker_rows}
@@ -18,15 +17,10 @@ use Rattle.quotient_row.specs.Ends.{known, count_seen, count_loads, told_publish
 use Rattle.quotient_row.specs.declared.row.RowReader.{RowReader}
 use Rattle.divide_merge.specs.Names.{script_division, reader_row, IsLooking}
 use Rattle.divide_workers.specs.Fronts.{plain_front}
-use Rattle.divide_workers.specs.Views.{WorkerView}
+use Rattle.divide_workers.specs.Views.{WorkerView, script_workers}
 use Rattle.divide_workers.specs.Working.{IsWorking}
 use Rattle.divide_workers.specs.declared.front.Front.{Front}
 use Rattle.divide_workers.specs.declared.mark.Mark.{Mark}
-
--- how many workers a script is one of
-abbrev pub script_workers : Script → ℕ
-script_workers (ProductScript m W w) = W
-script_workers (QuotientScript d W w) = W
 
 module _ {X M E : Type 0} (vector : M → List ℕ) (value : E → ℤ) where
   abbrev pub kept_terms : Option (TermOf M E) → List Term

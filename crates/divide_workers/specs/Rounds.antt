@@ -1,5 +1,5 @@
 -- A team of dividing workers around a merge, and a round of it.
-use Rattle.std.specs.Prelude.{◌≡◌, ◌≢◌, ◌⊎◌, ℕ, ℤ, ◌+◌, ◌<◌, ◌≤◌, List, [], length, slice_index_or, None}
+use Rattle.std.specs.Prelude.{◌≡◌, ◌≢◌, ◌⊎◌, ℕ, ◌+◌, ◌<◌, ◌≤◌, false, List, [], length, slice_index_or}
 use mathlib.Core.List.{IsPrefix}
 use Rattle.sdmp_laws.specs.Division.{Division}
 use Rattle.sdmp_laws.specs.LongDivision.{quotient_list}
@@ -7,11 +7,10 @@ use Rattle.divide_wholes.specs.Row.{row_terms}
 use Rattle.term_ring.specs.Names.{RingName}
 use Rattle.term_ring.specs.Sending.{Sends, HasMet, IsRefused}
 use Rattle.dividing_rounds.specs.Stalls.{IsLowered}
-use Rattle.dividing_rounds.specs.Rounds.{most_rounds}
+use Rattle.dividing_rounds.specs.Rounds.{progress, most_rounds}
 use Rattle.divide_merge.specs.Names.{RowIdentity}
-use Rattle.divide_merge.specs.Verdicts.{kept_of, progress}
-use Rattle.divide_merge.specs.Merges.{DivideView, taken_of, verdict_of}
-use Rattle.divide_merge.specs.declared.receipt.DivideAdvanced.{DivideAdvanced}
+use Rattle.divide_merge.specs.Verdicts.{Verdict, RowIsFull, IsVerdict, kept_of}
+use Rattle.divide_merge.specs.Merges.{DivideView, taken_of, free_places}
 use Rattle.divide_workers.specs.Fronts.{front_mono}
 use Rattle.divide_workers.specs.Paying.{HasRows, IsMarked}
 use Rattle.divide_workers.specs.Views.{WorkerView, sender_of}
@@ -65,7 +64,7 @@ IsTold m team = (k : ℕ) (d : WorkerView) → k < length team → HasHeard m (s
 pub record IsUpToDate (m : DivideView) (v : WorkerView) : Type 0 where
   pub learned : HasRows v.state → length v.state.known ≡ m.run.state.start + length (row_terms v.notes)
   pub few : length v.state.known ≤ length m.run.state.q
-  pub fronted : HasRows v.state → m.run.notes ≡ [] → m.run.state.front ≢ None → IsLowered m.run.state.division.ord (front_mono v.front) m.run.state.front
+  pub fronted : HasRows v.state → m.run.notes ≡ [] → IsLowered m.run.state.division.ord (front_mono v.front) m.run.state.front
 
 -- what is known of the workers at the beginning of a round
 pub record IsTeam (m : DivideView) (team : List WorkerView) : Type 0 where
@@ -73,12 +72,15 @@ pub record IsTeam (m : DivideView) (team : List WorkerView) : Type 0 where
   pub told : IsTold m team
   pub current : (k : ℕ) (d : WorkerView) → k < length team → IsUpToDate m (slice_index_or team k d)
 
--- the merge is over, as the receipt says, or it has come farther
-pub record IsRound {X M E : Type 0} (vector : M → List ℕ) (value : E → ℤ) (a b : DivideView) (last : DivideAdvanced X M E) : Type 0 where
-  pub receipt : last.merge.value.run ≡ b.run
-  pub terms : last.terms ≡ length b.run.state.q
-  pub over : b.run.over ≡ kept_of (verdict_of vector value last.answer)
-  pub farther : b.run.over ≡ None → progress a.run < progress b.run
+-- the row has a place, or the merge, as it is, has answered something else than that it needs one
+abbrev pub HasPlace : DivideView → Type 0
+HasPlace m = (length m.run.notes < m.row.places) ⊎ ((spare : ℕ) × (x : Verdict) × IsVerdict m.run.state (free_places m) spare x × (x ≢ RowIsFull))
+
+-- the merge gave this answer in the end of a round: it is over, or it has come farther
+pub record IsRound (a b : DivideView) (x : Verdict) : Type 0 where
+  pub answer : b.answer ≡ kept_of x
+  pub cause : IsVerdict b.run.state (free_places b) b.spare x
+  pub farther : b.run.over ≡ false → progress a.run < progress b.run
 
 -- ---- the rounds of a division
 -- 1 + 4*P + n + W*(n + 1), where n is the number of terms of q* and P that of f plus n times that of g less one

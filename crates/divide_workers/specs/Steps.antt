@@ -85,4 +85,4 @@ pub record CatchesUp (q : ℕ) (front : Option (List ℕ)) (a b : WorkerView) : 
   pub learned : HasRows a.state → length b.state.known ≡ max (length a.state.known) q
   pub notes : b.notes ≡ []
   pub falls : FrontFalls a.state.division.ord a.front b.front
-  pub lowered : HasRows a.state → front ≢ None → IsLowered a.state.division.ord (front_mono b.front) front
+  pub lowered : HasRows a.state → IsLowered a.state.division.ord (front_mono b.front) front

@@ -8,8 +8,8 @@ ghost use Rattle.term_ring.specs.Sending.{IsAmong, IsRefused, WasRefused, HasMet
 ghost use Rattle.quotient_row.specs.Ends.{IsNew};
 ghost use Rattle.divide_merge.specs.Names.{IsFit, IsLooking, row_identity, reader_row};
 ghost use Rattle.divide_merge.specs.Reached.{divide_name};
-ghost use Rattle.divide_workers.specs.Views.{sender_of};
-ghost use Rattle.divide_workers.specs.Inside.{view_of, script_workers};
+ghost use Rattle.divide_workers.specs.Views.{sender_of, script_workers};
+ghost use Rattle.divide_workers.specs.Inside.{view_of};
 ghost use Rattle.divide_workers.specs.Paying.{HasRows, IsFewSent};
 ghost use Rattle.divide_workers.specs.Working.{IsWorking};
 ghost use Rattle.divide_workers.specs.Steps.{Works, HoldsBack, Pushes, Refuses};

@@ -6,7 +6,8 @@ ghost use Rattle.term_ring.specs.Ends.{sent, head_seen, full_looks};
 ghost use Rattle.term_ring.specs.Names.{writer_name, IsWriting};
 ghost use Rattle.quotient_row.specs.Ends.{IsNew};
 ghost use Rattle.divide_merge.specs.Names.{IsFit, IsLooking, reader_row};
-ghost use Rattle.divide_workers.specs.Inside.{view_of, script_workers};
+ghost use Rattle.divide_workers.specs.Views.{script_workers};
+ghost use Rattle.divide_workers.specs.Inside.{view_of};
 ghost use Rattle.divide_workers.specs.Paying.{HasRows, IsFewSent};
 ghost use Rattle.divide_workers.specs.Working.{IsWorking};
 
