@@ -4,3 +4,7 @@ pub mod Ahead
 pub mod Stepping
 pub mod Working
 pub mod Holding
+pub mod Hearing
+pub mod Rounding
+pub mod Bounding
+pub mod Teams

@@ -29,6 +29,7 @@ works_itself lim v w = record {
   looks = omega arith;
   known = ([], append-nil v.state.known);
   learned = λ r. let e = w.enough r in omega (arith, e);
+  idle = λ n. refl;
   row = refl;
   notes = ([], append-nil v.notes);
   count = omega arith;
@@ -54,6 +55,7 @@ works_again a b c f g = record {
       let m = more_terms b.notes c.notes g.notes in
       let s : c.row.name.start ≡ b.row.name.start = ap (λ i. i.name.start) g.row in
       both (length a.state.known) (length b.state.known) (length c.state.known) (length (row_terms b.notes)) (length (row_terms c.notes)) b.row.name.start c.row.name.start s m (f.learned r) (g.learned (same_rows r));
+  idle = λ n. g.idle (λ r. n (λ e. r (sym rows_alike ∙ e))) ∙ f.idle n;
   row = g.row ∙ f.row;
   notes = prefix_again a.notes b.notes c.notes f.notes g.notes;
   count = let x = f.count in let y = g.count in omega (arith, x, y);
@@ -65,8 +67,8 @@ works_again a b c f g = record {
     both : (x y z t u r s : ℕ) → s ≡ r → t ≤ u → y ≡ max x (r + t) → z ≡ max y (s + u) → z ≡ max x (s + u)
     both x y z t u r s e m f g = omega (arith, e, m, f, g)
 
+    rows_alike : worker_rows a.state ≡ worker_rows b.state
+    rows_alike = sym (λ i. worker_rows record { division = f.division i; workers = f.workers i; worker = f.sends.worker i; known = a.state.known; unread = a.state.unread; kept = a.state.kept; sent = a.state.sent })
+
     same_rows : HasRows a.state → HasRows b.state
     same_rows r e = r (rows_alike ∙ e)
-      where
-        rows_alike : worker_rows a.state ≡ worker_rows b.state
-        rows_alike = sym (λ i. worker_rows record { division = f.division i; workers = f.workers i; worker = f.sends.worker i; known = a.state.known; unread = a.state.unread; kept = a.state.kept; sent = a.state.sent })

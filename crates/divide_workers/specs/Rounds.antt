@@ -60,10 +60,10 @@ pub record HasHeard (m : DivideView) (v : WorkerView) : Type 0 where
 abbrev pub IsTold : DivideView → List WorkerView → Type 0
 IsTold m team = (k : ℕ) (d : WorkerView) → k < length team → HasHeard m (slice_index_or team k d)
 
--- it has learned what it knows of the row; and where the row has no note its front is that of the merge or below
+-- where it has rows it has learned what it knows of the row, and where it has none no more; and while the row has no note its front is that of the merge or below
 pub record IsUpToDate (m : DivideView) (v : WorkerView) : Type 0 where
   pub learned : HasRows v.state → length v.state.known ≡ m.run.state.start + length (row_terms v.notes)
-  pub few : length v.state.known ≤ length m.run.state.q
+  pub few : length v.state.known ≤ m.run.state.start + length (row_terms v.notes)
   pub fronted : HasRows v.state → m.run.notes ≡ [] → IsLowered m.run.state.division.ord (front_mono v.front) m.run.state.front
 
 -- what is known of the workers at the beginning of a round

@@ -11,7 +11,7 @@ use Rattle.divide_workers.specs.Fronts.{PlainFront, IsPast, FrontFalls, front_mo
 use Rattle.divide_workers.specs.Paying.{HasRows, IsMarked}
 use Rattle.divide_workers.specs.Views.{WorkerView, sender_of}
 
--- It learned terms, handed out products and sent notes. Where it has rows it knows the terms that it knew or those that the row has told, whichever are more.
+-- It learned terms, handed out products and sent notes. Where it has rows it knows the terms that it knew or those that the row has told, whichever are more; where it has none it learned nothing.
 pub record Works (a b : WorkerView) : Type 0 where
   pub division : b.state.division ≡ a.state.division
   pub workers : b.state.workers ≡ a.state.workers
@@ -19,6 +19,7 @@ pub record Works (a b : WorkerView) : Type 0 where
   pub looks : a.full_looks ≤ b.full_looks
   pub known : IsPrefix a.state.known b.state.known
   pub learned : HasRows a.state → length b.state.known ≡ max (length a.state.known) (b.row.name.start + length (row_terms b.notes))
+  pub idle : (HasRows a.state → ⊥) → b.state.known ≡ a.state.known
   pub row : b.row ≡ a.row
   pub notes : IsPrefix a.notes b.notes
   pub count : a.count ≤ b.count
@@ -83,6 +84,7 @@ pub record CatchesUp (q : ℕ) (front : Option (List ℕ)) (a b : WorkerView) : 
   pub kept : b.state.kept ≡ a.state.kept
   pub known : IsPrefix a.state.known b.state.known
   pub learned : HasRows a.state → length b.state.known ≡ max (length a.state.known) q
+  pub idle : (HasRows a.state → ⊥) → b.state.known ≡ a.state.known
   pub notes : b.notes ≡ []
   pub falls : FrontFalls a.state.division.ord a.front b.front
   pub lowered : HasRows a.state → IsLowered a.state.division.ord (front_mono b.front) front
