@@ -34,7 +34,7 @@ use Rattle.divide_workers.proofs.Hearing.{its_division}
 
 -- ---- the bound
 -- a worker knows no more terms than are found
-known_few : (m : DivideView) (v : WorkerView) → RunWhole m.run → IsPrefix v.notes m.run.notes → length v.state.known ≤ m.run.state.start + length (row_terms v.notes) → length v.state.known ≤ length m.run.state.q
+pub known_few : (m : DivideView) (v : WorkerView) → RunWhole m.run → IsPrefix v.notes m.run.notes → length v.state.known ≤ m.run.state.start + length (row_terms v.notes) → length v.state.known ≤ length m.run.state.q
 known_few m v w p few =
     let more = more_terms v.notes m.run.notes p in
     let t : length (row_terms m.run.notes) ≡ length m.run.state.q - m.run.state.start = ap (λ (L : List Term). length L) (w.row.terms ∙ sym w.whole.row_terms) ∙ length-drop m.run.state.start m.run.state.q in

@@ -8,3 +8,4 @@ pub mod Hearing
 pub mod Rounding
 pub mod Bounding
 pub mod Teams
+pub mod Comparing

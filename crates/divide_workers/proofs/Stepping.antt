@@ -10,13 +10,14 @@ use Rattle.sdmp_laws.specs.Limits.{PassesBound}
 use Rattle.sdmp_laws.proofs.PlaceLemmas.{length_prefix}
 use Rattle.whole_laws.specs.Notes.{TermNote, MarkNote, Carry, MayFollow}
 use Rattle.divide_wholes.specs.Wholes.{latest_mark}
-use Rattle.divide_wholes.specs.Row.{RowNote, RowTerm, RowFront, row_terms, front_after, known_after, RowMayFollow, RowCarry}
+use Rattle.divide_wholes.specs.Row.{RowNote, RowTerm, RowFront, row_terms, front_after, known_after, RowMayFollow, RowCarryAfter, RowCarry}
 use Rattle.divide_wholes.specs.Workers.{WorkerState, WorkerWhole, IsTop, worker_rows, worker_script, sum_at}
 use Rattle.divide_wholes.proofs.RowLemmas.{row_terms-append, row_terms-front}
 use Rattle.divide_wholes.proofs.MarkLemmas.{worker_learn, worker_hand, worker_send, worker_mark}
 use Rattle.dividing_rounds.specs.Stalls.{IsLowered}
 use Rattle.divide_workers.specs.Fronts.{PlainFront, front_mono, IsAhead, IsPast, FrontFalls}
 use Rattle.divide_workers.specs.Paying.{HasRows, HasPaid}
+use Rattle.divide_merge.specs.Names.{RowIdentity}
 use Rattle.divide_workers.specs.Views.{WorkerView}
 use Rattle.divide_workers.specs.Working.{IsWorking}
 use Rattle.divide_workers.proofs.Falling.{IsFrontVector, past_falls}
@@ -136,6 +137,44 @@ hears_front lim v m front count loads spare w r c room hears i =
       room = λ s. omega (arith, l, room);
       paid = fall_pays v.state v.front (Some front) w.paid (λ x. past_falls d (worker_rows v.state) v.front (Some front) x hears.old_vector hears.new_vector hears.falls);
     }
+
+-- it takes over a front that holds for the terms to come
+pub takes_front : (lim : ℕ) (v : WorkerView) (news front : PlainFront) → IsWorking lim v → ((later : List Term) → v.state.known ++ later ≡ quotient_list v.state.division → IsAhead v.state.division (Some news) later) → Hears v.state.division v.front news front
+    → IsWorking lim (record v { front = Some front })
+unfolding worker_rows worker_script
+takes_front lim v news front w holds hears = record {
+  whole = w.whole;
+  fit = w.fit;
+  script = w.script;
+  row_division = w.row_division;
+  within = w.within;
+  ahead = λ later e. hears.says later (w.ahead later e) (holds later e);
+  carried = w.carried;
+  lowest = lowered_again v.state.division.ord v.front (Some front) (front_after v.state.division None v.notes) hears.falls w.lowest;
+  fronted = λ n e. not_none front e;
+  enough = w.enough;
+  room = w.room;
+  paid = fall_pays v.state v.front (Some front) w.paid (λ x. past_falls v.state.division (worker_rows v.state) v.front (Some front) x hears.old_vector hears.new_vector hears.falls);
+}
+
+-- it goes on with another row, of which it knows no note
+pub takes_row : (lim : ℕ) (v : WorkerView) (row : RowIdentity) (count loads : ℕ) (told : List RowNote) → IsWorking lim v → row.name.division ≡ v.state.division → (HasRows v.state → row.name.start ≤ length v.state.known) → (HasRows v.state → row.places ≤ v.spare)
+    → IsWorking lim (record v { row = row; notes = []; count = count; loads = loads; told = told })
+unfolding worker_rows worker_script RowCarryAfter front_after row_terms IsLowered
+takes_row lim v row count loads told w division start places = record {
+  whole = w.whole;
+  fit = w.fit;
+  script = w.script;
+  row_division = division;
+  within = w.within;
+  ahead = w.ahead;
+  carried = tt;
+  lowest = tt;
+  fronted = w.fronted;
+  enough = λ r. let s = start r in omega (arith, s);
+  room = λ r. let s = places r in omega (arith, s);
+  paid = w.paid;
+}
 
 -- nothing that it holds changes, but counts of its ends
 pub ends_change : (lim : ℕ) (v : WorkerView) (head looks count loads : ℕ) (told : List RowNote) → IsWorking lim v → IsWorking lim (record v { head = head; full_looks = looks; count = count; loads = loads; told = told })

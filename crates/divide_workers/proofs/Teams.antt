@@ -6,17 +6,19 @@ use Rattle.sdmp_laws.specs.Division.{Division}
 use Rattle.divide_wholes.specs.Row.{row_terms}
 use Rattle.divide_wholes.specs.Workers.{WorkerState, worker_rows}
 use Rattle.term_ring.specs.Names.{RingName}
-use Rattle.dividing_rounds.specs.Runs.{DivideRun}
+use Rattle.divide_wholes.specs.MergeRow.{with_new_row}
+use Rattle.dividing_rounds.specs.Runs.{DivideRun, RunWhole}
 use Rattle.dividing_rounds.specs.Stalls.{IsLowered}
 use Rattle.divide_merge.specs.Names.{RowIdentity}
 use Rattle.divide_merge.specs.Merges.{DivideView, IsSound}
 use Rattle.divide_workers.specs.Fronts.{PlainFront, front_mono, FrontFalls}
 use Rattle.divide_workers.specs.Paying.{HasRows}
-use Rattle.divide_workers.specs.Views.{WorkerView}
-use Rattle.divide_workers.specs.Steps.{Works}
+use Rattle.divide_workers.specs.Views.{WorkerView, sender_of}
+use Rattle.divide_workers.specs.Steps.{Works, CatchesUp}
 use Rattle.divide_workers.specs.Rounds.{Moves, Meets, AllMove, AllMeet, IsMember, AreMembers, HasHeard, IsTold, IsUpToDate, IsTeam}
 use Rattle.divide_workers.proofs.Ahead.{lowered_again}
 use Rattle.divide_workers.proofs.Working.{more_terms}
+use Rattle.divide_workers.proofs.Bounding.{known_few}
 
 -- ---- members
 meets_member : (m : DivideView) (rings : List RingName) (row : RowIdentity) (k : ℕ) (u v : WorkerView) → Meets m u v → IsMember rings row k u → IsMember rings row k v
@@ -134,3 +136,27 @@ module _ (a e f : DivideView) (v0 v1 v2 v3 : WorkerView) (p : Passes a e f v0 v1
 
   pub up_to_date : IsUpToDate f v3
   up_to_date = record { learned = learned; few = few; fronted = fronted }
+
+-- ---- a new row
+-- a worker that was up to date is so with the merge's new row
+pub catches_up : (m n : DivideView) (u v : WorkerView) → RunWhole m.run → n.run ≡ record m.run { state = with_new_row m.run.state; notes = [] } → IsUpToDate m u → IsPrefix u.notes m.run.notes → u.state.division ≡ m.run.state.division
+    → CatchesUp n.row (length m.run.state.q) m.run.state.front u v → IsUpToDate n v
+unfolding with_new_row row_terms worker_rows
+catches_up m n u v w run old notes mine c =
+    let start : n.run.state.start ≡ length m.run.state.q = ap (λ (r : DivideRun). r.state.start) run in
+    let front : n.run.state.front ≡ m.run.state.front = ap (λ (r : DivideRun). r.state.front) run in
+    let division : n.run.state.division ≡ m.run.state.division = ap (λ (r : DivideRun). r.state.division) run in
+    let none : length (row_terms v.notes) ≡ 0 = ap (λ x. length (row_terms x)) c.notes in
+    let few = known_few m u w notes old.few in
+    let same : worker_rows u.state ≡ worker_rows v.state = rows_alike in record {
+      learned = λ r. let l = c.learned (λ e. r (sym same ∙ e)) in omega (arith, l, few, start, none);
+      few = pick few start none (worker_rows u.state) refl;
+      fronted = λ r e. subst (λ (x : Option (List ℕ)). IsLowered n.run.state.division.ord (front_mono v.front) x) (sym front) (subst (λ (d : Division). IsLowered d.ord (front_mono v.front) m.run.state.front) (mine ∙ sym division) (c.lowered (λ e. r (sym same ∙ e))));
+    }
+  where
+    rows_alike : worker_rows u.state ≡ worker_rows v.state
+    rows_alike = sym (λ j. worker_rows record { division = c.division j; workers = c.workers j; worker = (c.sender j).worker; known = []; unread = []; kept = []; sent = [] })
+
+    pick : length u.state.known ≤ length m.run.state.q → n.run.state.start ≡ length m.run.state.q → length (row_terms v.notes) ≡ 0 → (rows : List Term) → worker_rows u.state ≡ rows → length v.state.known ≤ n.run.state.start + length (row_terms v.notes)
+    pick few start none [] e = let k = ap (λ (L : List Term). length L) (c.idle (λ r. r e)) in omega (arith, k, few, start, none)
+    pick few start none (t ∷ rows) e = let l = c.learned (λ z. cc (sym e ∙ z)) in omega (arith, l, few, start, none)

@@ -1,5 +1,5 @@
 -- A team of dividing workers around a merge, and a round of it.
-use Rattle.std.specs.Prelude.{◌≡◌, ◌≢◌, ◌⊎◌, ℕ, ◌+◌, ◌<◌, ◌≤◌, false, List, [], length, slice_index_or}
+use Rattle.std.specs.Prelude.{◌≡◌, ◌≢◌, ◌⊎◌, ℕ, ◌+◌, ◌<◌, ◌≤◌, false, List, [], length, slice_index_or, Option}
 use mathlib.Core.List.{IsPrefix}
 use Rattle.sdmp_laws.specs.Division.{Division}
 use Rattle.sdmp_laws.specs.LongDivision.{quotient_list}
@@ -14,7 +14,7 @@ use Rattle.divide_merge.specs.Merges.{DivideView, taken_of, free_places}
 use Rattle.divide_workers.specs.Fronts.{front_mono}
 use Rattle.divide_workers.specs.Paying.{HasRows, IsMarked}
 use Rattle.divide_workers.specs.Views.{WorkerView, sender_of}
-use Rattle.divide_workers.specs.Steps.{Works, HoldsBack}
+use Rattle.divide_workers.specs.Steps.{Works, HoldsBack, CatchesUp}
 
 -- the worker advanced until its ring was full, or it waited and its last look found nothing, or it has no rows
 pub record Moves (a b : WorkerView) : Type 0 where
@@ -71,6 +71,11 @@ pub record IsTeam (m : DivideView) (team : List WorkerView) : Type 0 where
   pub members : AreMembers m.rings m.row team
   pub told : IsTold m team
   pub current : (k : ℕ) (d : WorkerView) → k < length team → IsUpToDate m (slice_index_or team k d)
+
+-- each worker goes on with this row
+pub record AllCatchUp (row : RowIdentity) (q : ℕ) (front : Option (List ℕ)) (a b : List WorkerView) : Type 0 where
+  pub long : length b ≡ length a
+  pub each : (k : ℕ) (d : WorkerView) → k < length a → CatchesUp row q front (slice_index_or a k d) (slice_index_or b k d)
 
 -- the row has a place, or the merge, as it is, has answered something else than that it needs one
 abbrev pub HasPlace : DivideView → Type 0

@@ -8,6 +8,7 @@ use Rattle.divide_wholes.specs.Workers.{IsTop, worker_rows}
 use Rattle.term_ring.specs.Sending.{Sends, IsRefused, WasRefused}
 use Rattle.dividing_rounds.specs.Stalls.{IsHeld, IsLowered}
 use Rattle.divide_workers.specs.Fronts.{PlainFront, IsPast, FrontFalls, front_mono}
+use Rattle.divide_merge.specs.Names.{RowIdentity}
 use Rattle.divide_workers.specs.Paying.{HasRows, IsMarked}
 use Rattle.divide_workers.specs.Views.{WorkerView, sender_of}
 
@@ -76,8 +77,8 @@ pub record Refuses (a b : WorkerView) : Type 0 where
   pub refused : IsRefused (sender_of b)
   pub was : WasRefused (sender_of a) (sender_of b)
 
--- it goes on with another row, which tells nothing yet: it knows the terms of q, and its front is at that of the merge or below; what it has sent and keeps stays
-pub record CatchesUp (q : ℕ) (front : Option (List ℕ)) (a b : WorkerView) : Type 0 where
+-- it goes on with this row, of which it knows no note: it knows the terms of the quotient found, of which there are q, and its front is at that of the merge or below; what it has sent and keeps stays
+pub record CatchesUp (row : RowIdentity) (q : ℕ) (front : Option (List ℕ)) (a b : WorkerView) : Type 0 where
   pub division : b.state.division ≡ a.state.division
   pub workers : b.state.workers ≡ a.state.workers
   pub sender : sender_of b ≡ sender_of a
@@ -85,6 +86,7 @@ pub record CatchesUp (q : ℕ) (front : Option (List ℕ)) (a b : WorkerView) : 
   pub known : IsPrefix a.state.known b.state.known
   pub learned : HasRows a.state → length b.state.known ≡ max (length a.state.known) q
   pub idle : (HasRows a.state → ⊥) → b.state.known ≡ a.state.known
+  pub row_is : b.row ≡ row
   pub notes : b.notes ≡ []
   pub falls : FrontFalls a.state.division.ord a.front b.front
   pub lowered : HasRows a.state → IsLowered a.state.division.ord (front_mono b.front) front
