@@ -56,10 +56,10 @@ one_more_term notes t = ap (λ (L : List Term). length L) (row_terms-append note
 
 -- it learns the next quotient term, which may be known
 pub learns : (lim : ℕ) (v : WorkerView) (t : Term) (unread : List Term) (front : PlainFront) (spare : ℕ) → IsWorking lim v → IsPrefix (v.state.known ++ t ∷ []) (quotient_list v.state.division) → (PassesBound v.state.division (v.state.known ++ t ∷ []) → ⊥)
-    → IsPermutation (v.state.unread ++ row t (worker_rows v.state)) unread → v.row.places ≤ length v.notes + spare → Hears v.state.division v.front (front_of_term v.state.division t) front
+    → IsPermutation (v.state.unread ++ row t (worker_rows v.state)) unread → Hears v.state.division v.front (front_of_term v.state.division t) front
     → IsWorking lim (record v { state = record v.state { known = v.state.known ++ t ∷ []; unread = unread }; front = Some front; spare = spare })
 unfolding worker_rows worker_script
-learns lim v t unread front spare w i within h room hears =
+learns lim v t unread front spare w i within h hears =
     let d = v.state.division in let l = length_push v.state.known t in record {
       whole = worker_learn v.state t unread w.whole i h;
       fit = w.fit;
@@ -72,19 +72,18 @@ learns lim v t unread front spare w i within h room hears =
       lowest = lowered_again d.ord v.front (Some front) (front_after d None v.notes) hears.falls w.lowest;
       fronted = λ n e. not_none front e;
       enough = λ r. let k = w.enough r in omega (arith, k, l);
-      room = λ r. room;
       paid = learn_pays v.state v.front (Some front) t unread w.paid (λ x. past_falls d (worker_rows v.state) v.front (Some front) x hears.old_vector hears.new_vector hears.falls) h;
     }
 
 -- the row tells a term that it knows
 pub hears_term : (lim : ℕ) (v : WorkerView) (t : Term) (front : PlainFront) (count loads spare : ℕ) → IsWorking lim v → RowCarry v.state.division v.row.name.start (v.notes ++ RowTerm t ∷ [])
-    → v.row.name.start + length (row_terms v.notes) < length v.state.known → v.row.places ≤ length v.notes + 1 + spare → Hears v.state.division v.front (front_of_term v.state.division t) front
+    → v.row.name.start + length (row_terms v.notes) < length v.state.known → Hears v.state.division v.front (front_of_term v.state.division t) front
     → IsWorking lim (record v { notes = v.notes ++ RowTerm t ∷ []; count = count; loads = loads; front = Some front; spare = spare })
 unfolding worker_rows worker_script RowMayFollow
-hears_term lim v t front count loads spare w c below room hears =
+hears_term lim v t front count loads spare w c below hears =
     let d = v.state.division in
     let may = followed d v.row.name.start v.notes (RowTerm t) c in
-    let l = length_push v.notes (RowTerm t) in let k = one_more_term v.notes t in
+    let k = one_more_term v.notes t in
     let q = length_prefix v.state.known (quotient_list d) w.whole.knows in
     let n = known_length d v.row.name.start v.notes (omega (arith, below, q)) in record {
       whole = w.whole;
@@ -97,7 +96,6 @@ hears_term lim v t front count loads spare w c below room hears =
       lowest = subst (IsLowered d.ord (Some front.mono)) (sym (front_at_term d v.notes t)) (falls_lowered d.ord (front_of_term d t) (Some front) hears.falls_news);
       fronted = λ m e. not_none front e;
       enough = λ r. omega (arith, k, below);
-      room = λ r. omega (arith, l, room);
       paid = fall_pays v.state v.front (Some front) w.paid (λ x. past_falls d (worker_rows v.state) v.front (Some front) x hears.old_vector hears.new_vector hears.falls);
     }
 
@@ -115,13 +113,12 @@ next_term lim v t w c e =
 
 -- the row tells a front
 pub hears_front : (lim : ℕ) (v : WorkerView) (m : List ℕ) (front : PlainFront) (count loads spare : ℕ) → IsWorking lim v → HasRows v.state → RowCarry v.state.division v.row.name.start (v.notes ++ RowFront m ∷ [])
-    → v.row.places ≤ length v.notes + 1 + spare → Hears v.state.division v.front (record { mono = m; is_strict = false }) front → IsPrefix (known_after v.state.division v.row.name.start v.notes) (quotient_list v.state.division)
+    → Hears v.state.division v.front (record { mono = m; is_strict = false }) front → IsPrefix (known_after v.state.division v.row.name.start v.notes) (quotient_list v.state.division)
     → IsWorking lim (record v { notes = v.notes ++ RowFront m ∷ []; count = count; loads = loads; front = Some front; spare = spare })
 unfolding worker_rows worker_script RowMayFollow
-hears_front lim v m front count loads spare w r c room hears i =
+hears_front lim v m front count loads spare w r c hears i =
     let d = v.state.division in
     let may = followed d v.row.name.start v.notes (RowFront m) c in
-    let l = length_push v.notes (RowFront m) in
     let k : length (row_terms (v.notes ++ RowFront m ∷ [])) ≡ length (row_terms v.notes) = ap (λ (L : List Term). length L) (row_terms-front v.notes m) in
     let n = row_known lim v w (w.enough r) i in record {
       whole = w.whole;
@@ -134,7 +131,6 @@ hears_front lim v m front count loads spare w r c room hears i =
       lowest = subst (IsLowered d.ord (Some front.mono)) (sym (front_at_front d v.notes m)) (falls_lowered d.ord (record { mono = m; is_strict = false }) (Some front) hears.falls_news);
       fronted = λ o e. not_none front e;
       enough = λ s. let a = w.enough s in omega (arith, k, a);
-      room = λ s. omega (arith, l, room);
       paid = fall_pays v.state v.front (Some front) w.paid (λ x. past_falls d (worker_rows v.state) v.front (Some front) x hears.old_vector hears.new_vector hears.falls);
     }
 
@@ -153,15 +149,14 @@ takes_front lim v news front w holds hears = record {
   lowest = lowered_again v.state.division.ord v.front (Some front) (front_after v.state.division None v.notes) hears.falls w.lowest;
   fronted = λ n e. not_none front e;
   enough = w.enough;
-  room = w.room;
   paid = fall_pays v.state v.front (Some front) w.paid (λ x. past_falls v.state.division (worker_rows v.state) v.front (Some front) x hears.old_vector hears.new_vector hears.falls);
 }
 
 -- it goes on with another row, of which it knows no note
-pub takes_row : (lim : ℕ) (v : WorkerView) (row : RowIdentity) (count loads : ℕ) (told : List RowNote) → IsWorking lim v → row.name.division ≡ v.state.division → (HasRows v.state → row.name.start ≤ length v.state.known) → (HasRows v.state → row.places ≤ v.spare)
+pub takes_row : (lim : ℕ) (v : WorkerView) (row : RowIdentity) (count loads : ℕ) (told : List RowNote) → IsWorking lim v → row.name.division ≡ v.state.division → (HasRows v.state → row.name.start ≤ length v.state.known)
     → IsWorking lim (record v { row = row; notes = []; count = count; loads = loads; told = told })
 unfolding worker_rows worker_script RowCarryAfter front_after row_terms IsLowered
-takes_row lim v row count loads told w division start places = record {
+takes_row lim v row count loads told w division start = record {
   whole = w.whole;
   fit = w.fit;
   script = w.script;
@@ -172,7 +167,6 @@ takes_row lim v row count loads told w division start places = record {
   lowest = tt;
   fronted = w.fronted;
   enough = λ r. let s = start r in omega (arith, s);
-  room = λ r. let s = places r in omega (arith, s);
   paid = w.paid;
 }
 
@@ -190,7 +184,6 @@ ends_change lim v head looks count loads told w = record {
   lowest = w.lowest;
   fronted = w.fronted;
   enough = w.enough;
-  room = w.room;
   paid = w.paid;
 }
 
@@ -220,7 +213,6 @@ hands lim v x taken unread f is vector w none l h at below some past =
       lowest = w.lowest;
       fronted = w.fronted;
       enough = w.enough;
-      room = w.room;
       paid = hand_pays v.state v.front x taken unread (coef d.p v.state.unread x) w.paid none h at some past;
     }
 
@@ -250,7 +242,6 @@ sends_term lim v t head looks w one = record {
   lowest = w.lowest;
   fronted = w.fronted;
   enough = w.enough;
-  room = w.room;
   paid = send_pays v.state v.front t w.paid one;
 }
 
@@ -273,7 +264,6 @@ sends_mark lim v top head looks w none t n =
       lowest = w.lowest;
       fronted = w.fronted;
       enough = w.enough;
-      room = w.room;
       paid = mark_pays v.state v.front top w.paid t r;
     }
 

@@ -14,6 +14,7 @@ use Rattle.divide_merge.specs.Merges.{DivideView, IsSound}
 use Rattle.divide_workers.specs.Fronts.{PlainFront, front_mono, FrontFalls}
 use Rattle.divide_workers.specs.Paying.{HasRows}
 use Rattle.divide_workers.specs.Views.{WorkerView, sender_of}
+use Rattle.divide_workers.specs.Working.{HasRoom}
 use Rattle.divide_workers.specs.Steps.{Works, CatchesUp}
 use Rattle.divide_workers.specs.Rounds.{Moves, Meets, AllMove, AllMeet, IsMember, AreMembers, HasHeard, IsTold, IsUpToDate, IsTeam}
 use Rattle.divide_workers.proofs.Ahead.{lowered_again}
@@ -134,15 +135,22 @@ module _ (a e f : DivideView) (v0 v1 v2 v3 : WorkerView) (p : Passes a e f v0 v1
       subst (λ (x : Option PlainFront). FrontFalls f.run.state.division.ord v0.front x) (sym front3) (subst (λ (d : Division). FrontFalls d.ord v0.front v1.front) (p.mine ∙ sym p.division) p.moves.works.front) in
       lowered_again f.run.state.division.ord v0.front v3.front f.run.state.front falls old
 
+  room : HasRoom v3
+  room r =
+      let h = p.moves.works.room p.current.room (λ none. r (ap worker_rows state3 ∙ none)) in
+      let n : length v3.notes ≡ length v1.notes = ap length notes3 in
+      let s : v3.spare ≡ v1.spare = ap (λ (v : WorkerView). v.spare) p.second.same ∙ ap (λ (v : WorkerView). v.spare) p.first.same in
+      let o : v3.row.places ≡ v1.row.places = ap (λ (v : WorkerView). v.row.places) p.second.same ∙ ap (λ (v : WorkerView). v.row.places) p.first.same in omega (arith, h, n, s, o)
+
   pub up_to_date : IsUpToDate f v3
-  up_to_date = record { learned = learned; few = few; fronted = fronted }
+  up_to_date = record { learned = learned; few = few; room = room; fronted = fronted }
 
 -- ---- a new row
 -- a worker that was up to date is so with the merge's new row
 pub catches_up : (m n : DivideView) (u v : WorkerView) → RunWhole m.run → n.run ≡ record m.run { state = with_new_row m.run.state; notes = [] } → IsUpToDate m u → IsPrefix u.notes m.run.notes → u.state.division ≡ m.run.state.division
-    → CatchesUp n.row (length m.run.state.q) m.run.state.front u v → IsUpToDate n v
+    → HasRoom v → CatchesUp n.row (length m.run.state.q) m.run.state.front u v → IsUpToDate n v
 unfolding with_new_row row_terms worker_rows
-catches_up m n u v w run old notes mine c =
+catches_up m n u v w run old notes mine room c =
     let start : n.run.state.start ≡ length m.run.state.q = ap (λ (r : DivideRun). r.state.start) run in
     let front : n.run.state.front ≡ m.run.state.front = ap (λ (r : DivideRun). r.state.front) run in
     let division : n.run.state.division ≡ m.run.state.division = ap (λ (r : DivideRun). r.state.division) run in
@@ -151,6 +159,7 @@ catches_up m n u v w run old notes mine c =
     let same : worker_rows u.state ≡ worker_rows v.state = rows_alike in record {
       learned = λ r. let l = c.learned (λ e. r (sym same ∙ e)) in omega (arith, l, few, start, none);
       few = pick few start none (worker_rows u.state) refl;
+      room = room;
       fronted = λ r e. subst (λ (x : Option (List ℕ)). IsLowered n.run.state.division.ord (front_mono v.front) x) (sym front) (subst (λ (d : Division). IsLowered d.ord (front_mono v.front) m.run.state.front) (mine ∙ sym division) (c.lowered (λ e. r (sym same ∙ e))));
     }
   where

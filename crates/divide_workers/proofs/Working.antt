@@ -36,6 +36,7 @@ works_itself lim v w = record {
   loads = omega arith;
   told = refl;
   front = falls_itself v.state.division.ord v.front;
+  room = λ h. h;
 }
 
 pub works_again : (a b c : WorkerView) → Works a b → Works b c → Works a c
@@ -62,6 +63,7 @@ works_again a b c f g = record {
   loads = let x = f.loads in let y = g.loads in omega (arith, x, y);
   told = g.told ∙ f.told;
   front = falls_again a.state.division.ord a.front b.front c.front f.front (subst (λ d. FrontFalls d.ord b.front c.front) f.division g.front);
+  room = λ h. g.room (f.room h);
 }
   where
     both : (x y z t u r s : ℕ) → s ≡ r → t ≤ u → y ≡ max x (r + t) → z ≡ max y (s + u) → z ≡ max x (s + u)

@@ -16,7 +16,7 @@ use Rattle.quotient_row.specs.Spelling.{notes_of as row_notes_of}
 use Rattle.quotient_row.specs.Ends.{known, count_seen, count_loads, told_published}
 use Rattle.quotient_row.specs.declared.row.RowReader.{RowReader}
 use Rattle.divide_merge.specs.Names.{script_division, reader_row, IsLooking}
-use Rattle.divide_workers.specs.Fronts.{plain_front}
+use Rattle.divide_workers.specs.Fronts.{plain_front, vector_of}
 use Rattle.divide_workers.specs.Views.{WorkerView, script_workers}
 use Rattle.divide_workers.specs.Working.{IsWorking}
 use Rattle.divide_workers.specs.declared.front.Front.{Front}
@@ -57,11 +57,7 @@ module _ {X M E : Type 0} (vector : M → List ℕ) (value : E → ℤ) where
 
 -- a mark as plain data
 abbrev pub mark_of : {M : Type 0} → (M → List ℕ) → Mark M → ℕ × Option (List ℕ)
-mark_of vector m = (m.known, top_of vector m.top)
-  where
-    top_of : {M : Type 0} → (M → List ℕ) → Option M → Option (List ℕ)
-    top_of vector None = None
-    top_of vector (Some top) = Some (vector top)
+mark_of vector m = (m.known, vector_of vector m.top)
 
 abbrev pub KeptBelongs : {M E : Type 0} → (E → Type 0) → Option (TermOf M E) → Type 0
 KeptBelongs belongs None = Unit {0}

@@ -14,6 +14,7 @@ use Rattle.divide_merge.specs.Merges.{DivideView, taken_of, free_places}
 use Rattle.divide_workers.specs.Fronts.{front_mono}
 use Rattle.divide_workers.specs.Paying.{HasRows, IsMarked}
 use Rattle.divide_workers.specs.Views.{WorkerView, sender_of}
+use Rattle.divide_workers.specs.Working.{HasRoom}
 use Rattle.divide_workers.specs.Steps.{Works, HoldsBack, CatchesUp}
 
 -- the worker advanced until its ring was full, or it waited and its last look found nothing, or it has no rows
@@ -60,10 +61,11 @@ pub record HasHeard (m : DivideView) (v : WorkerView) : Type 0 where
 abbrev pub IsTold : DivideView → List WorkerView → Type 0
 IsTold m team = (k : ℕ) (d : WorkerView) → k < length team → HasHeard m (slice_index_or team k d)
 
--- where it has rows it has learned what it knows of the row, and where it has none no more; and while the row has no note its front is that of the merge or below
+-- where it has rows it has learned what it knows of the row, and has room for what the row may still tell; where it has none it knows no more than that; and while the row has no note its front is that of the merge or below
 pub record IsUpToDate (m : DivideView) (v : WorkerView) : Type 0 where
   pub learned : HasRows v.state → length v.state.known ≡ m.run.state.start + length (row_terms v.notes)
   pub few : length v.state.known ≤ m.run.state.start + length (row_terms v.notes)
+  pub room : HasRoom v
   pub fronted : HasRows v.state → m.run.notes ≡ [] → IsLowered m.run.state.division.ord (front_mono v.front) m.run.state.front
 
 -- what is known of the workers at the beginning of a round

@@ -1,16 +1,21 @@
 -- What the steps of a dividing worker change.
-use Rattle.std.specs.Prelude.{◌≡◌, ◌≢◌, ℕ, ◌+◌, ◌≤◌, ◌<◌, max, List, [], length, Option, Some, None}
+use Rattle.std.specs.Prelude.{◌≡◌, ◌≢◌, ℕ, ◌+◌, ◌≤◌, ◌<◌, max, List, [], ◌∷◌, ◌++◌, length, Option, Some, None}
 use mathlib.Core.List.{IsPrefix}
 use Rattle.sdmp_laws.specs.Order.{◌⋅◌}
-use Rattle.sdmp_laws.specs.Poly.{lm}
+use Rattle.sdmp_laws.specs.Poly.{Term, lm}
+use Rattle.sdmp_laws.specs.Division.{Division}
+use Rattle.sdmp_laws.specs.LongDivision.{quotient_list}
+use Rattle.sdmp_laws.specs.Limits.{PassesBound}
+use Rattle.divide_wholes.specs.Wholes.{AllUnderFront}
 use Rattle.divide_wholes.specs.Row.{row_terms}
-use Rattle.divide_wholes.specs.Workers.{IsTop, worker_rows}
+use Rattle.divide_wholes.specs.Workers.{WorkerState, IsTop, worker_rows}
 use Rattle.term_ring.specs.Sending.{Sends, IsRefused, WasRefused}
 use Rattle.dividing_rounds.specs.Stalls.{IsHeld, IsLowered}
 use Rattle.divide_workers.specs.Fronts.{PlainFront, IsPast, FrontFalls, front_mono}
 use Rattle.divide_merge.specs.Names.{RowIdentity}
 use Rattle.divide_workers.specs.Paying.{HasRows, IsMarked}
 use Rattle.divide_workers.specs.Views.{WorkerView, sender_of}
+use Rattle.divide_workers.specs.Working.{HasRoom}
 
 -- It learned terms, handed out products and sent notes. Where it has rows it knows the terms that it knew or those that the row has told, whichever are more; where it has none it learned nothing.
 pub record Works (a b : WorkerView) : Type 0 where
@@ -27,6 +32,7 @@ pub record Works (a b : WorkerView) : Type 0 where
   pub loads : a.loads ≤ b.loads
   pub told : b.told ≡ a.told
   pub front : FrontFalls a.state.division.ord a.front b.front
+  pub room : HasRoom a → HasRoom b
 
 -- a look told no note that it didn't know
 pub record FindsNothing (a b : WorkerView) : Type 0 where
@@ -88,5 +94,27 @@ pub record CatchesUp (row : RowIdentity) (q : ℕ) (front : Option (List ℕ)) (
   pub idle : (HasRows a.state → ⊥) → b.state.known ≡ a.state.known
   pub row_is : b.row ≡ row
   pub notes : b.notes ≡ []
+  pub spare : HasRows a.state → a.spare + length a.state.known ≡ b.spare + length b.state.known
   pub falls : FrontFalls a.state.division.ord a.front b.front
   pub lowered : HasRows a.state → IsLowered a.state.division.ord (front_mono b.front) front
+
+-- it learned more terms, and its front fell
+pub record LearnsMore (a b : WorkerView) : Type 0 where
+  pub same : b ≡ record a { state = record a.state { known = b.state.known; unread = b.state.unread }; front = b.front; spare = b.spare }
+  pub known : IsPrefix a.state.known b.state.known
+  pub spare : a.spare + length a.state.known ≡ b.spare + length b.state.known
+  pub falls : FrontFalls a.state.division.ord a.front b.front
+
+-- the term may be learned: it is the next quotient term, with which no bound is passed
+pub record IsNextTerm (s : WorkerState) (t : Term) : Type 0 where
+  pub begins : IsPrefix (s.known ++ t ∷ []) (quotient_list s.division)
+  pub within : PassesBound s.division (s.known ++ t ∷ []) → ⊥
+
+-- so may these: they begin the quotient's terms and pass no bound
+pub record IsBegun (d : Division) (q : List Term) : Type 0 where
+  pub begins : IsPrefix q (quotient_list d)
+  pub within : PassesBound d q → ⊥
+
+-- no term after those that are known, times lm(g), is above the front
+abbrev pub IsFrontOf : WorkerState → Option (List ℕ) → Type 0
+IsFrontOf s front = (later : List Term) → s.known ++ later ≡ quotient_list s.division → AllUnderFront s.division front later

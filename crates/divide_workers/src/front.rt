@@ -37,20 +37,6 @@ pub(crate) fn lower<M: Monomial>(
     }
 }
 
-/// The lower of what is known and the merge's front, where there is one.
-pub(crate) fn no_higher<M: Monomial>(
-    known: Option<Front<M>>,
-    front: Option<M>,
-    steps: &mut Steps,
-) -> Option<Front<M>> {
-    let Some(mono) = front else { return known };
-    let news = Front {
-        mono,
-        is_strict: false,
-    };
-    Some(lower(known, news, steps))
-}
-
 /// Whether a worker may hand out the sum at `top`, where this is its front times its first row.
 #[inline(always)]
 pub(crate) fn is_past<M: Monomial>(top: M, lead: M, frontier: Front<M>, steps: &mut Steps) -> bool

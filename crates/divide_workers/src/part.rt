@@ -1,18 +1,23 @@
 //! A worker's part of a division: what it learns and sends, and how it waits.
-ghost use Rattle.std.specs.Prelude.{◌≡◌, ◌≢◌, ◌+◌, ◌-◌, ◌≤◌, ◌<◌, map, length, [], vec_len, IfOk, IfErr, OnOk, Some, None};
+ghost use Rattle.std.specs.Prelude.{◌≡◌, ◌≢◌, ◌+◌, ◌-◌, ◌≤◌, ◌<◌, map, List, ◌++◌, All, length, [], vec_len, IfOk, IfErr, OnOk, Some, None};
 ghost use Rattle.whole_laws.specs.Notes.{QuotientScript, Carry, divisor_rows};
 ghost use Rattle.turnstile.specs.Passes.{made_with, IsPassOf, IsOutside, HasPass, entries, busy, patience};
 ghost use Rattle.term_ring.specs.Ends.{sent, head_seen, full_looks};
 ghost use Rattle.term_ring.specs.Names.{NoneBelow, ring_name, writer_name, IsWriting};
 ghost use Rattle.term_ring.specs.Sending.{IsAmong, IsRefused, WasRefused, HasMet};
-ghost use Rattle.quotient_row.specs.Ends.{IsNew};
+ghost use Rattle.quotient_row.specs.Ends.{IsNew, known};
+ghost use Rattle.sdmp_laws.specs.Poly.{Term as PlainTerm};
+ghost use Rattle.sdmp_laws.specs.LongDivision.{quotient_list};
+ghost use Rattle.divide_wholes.specs.Wholes.{AllUnderFront};
+ghost use Rattle.canonical_terms.specs.View.{sum_of};
+ghost use Rattle.divide_workers.specs.Fronts.{vector_of};
 ghost use Rattle.divide_merge.specs.Names.{IsFit, IsLooking, row_identity, reader_row};
 ghost use Rattle.divide_merge.specs.Reached.{divide_name};
 ghost use Rattle.divide_workers.specs.Views.{sender_of, script_workers};
 ghost use Rattle.divide_workers.specs.Inside.{view_of};
 ghost use Rattle.divide_workers.specs.Paying.{HasRows, IsFewSent};
-ghost use Rattle.divide_workers.specs.Working.{IsWorking};
-ghost use Rattle.divide_workers.specs.Steps.{Works, HoldsBack, Pushes, Refuses};
+ghost use Rattle.divide_workers.specs.Working.{IsWorking, HasRoom};
+ghost use Rattle.divide_workers.specs.Steps.{Works, HoldsBack, Pushes, Refuses, IsBegun, CatchesUp};
 ghost use Rattle.divide_workers.specs.Stops.{HasName, IsReceipt, IsStop};
 ghost use Rattle.divide_workers.specs.Rounds.{Moves, Meets};
 
@@ -76,7 +81,6 @@ impl<'a, R: CoeffRing, M: Monomial> Part<'a, R, M> {
         requires learned { (rows.learned ≡ []) × (rows.unread ≡ []) }
         requires sent { sent writer ≡ [] }
         requires known { IsNew reader }
-        requires room { rows.rows ≢ [] → (reader_row reader).places ≤ rows.spare }
         ensures { result.sender ≡ view_of M.vector R.value worker rows writer reader None None }
     {
         Part {
@@ -108,6 +112,7 @@ impl<'a, R: CoeffRing, M: Monomial> Part<'a, R, M> {
         requires name { HasName (made_with shared.now.turnstile.now) (map ring_name shared.now.rings.now) (row_identity shared.now.row.now) }
         requires ring { IsAmong (map ring_name shared.now.rings.now) (sender_of self.old.sender) }
         requires row { self.old.sender.row ≡ row_identity shared.now.row.now }
+        requires room { HasRoom self.old.sender }
         ensures pass { IsPassOf shared.now.turnstile.now pass.new × IsOutside pass.new }
         ensures works { Works self.old.sender self.new.sender }
         ensures stop { IsStop (divide_name (made_with shared.now.turnstile.now)) self.old.sender self.new.sender (Some pass.old) (Some pass.new) result }
@@ -138,6 +143,7 @@ impl<'a, R: CoeffRing, M: Monomial> Part<'a, R, M> {
         requires name { HasName (made_with shared.now.turnstile.now) (map ring_name shared.now.rings.now) (row_identity shared.now.row.now) }
         requires ring { ring_name ring.now ≡ self.old.sender.ring }
         requires row { self.old.sender.row ≡ row_identity shared.now.row.now }
+        requires room { HasRoom self.old.sender }
         requires rows { HasRows self.old.sender.state }
         ensures pass { IsPassOf shared.now.turnstile.now pass.new × IsOutside pass.new }
         ensures works { Works self.old.sender self.new.sender }
@@ -252,7 +258,16 @@ impl<'a, R: CoeffRing, M: Monomial> Part<'a, R, M> {
     }
 
     /// Goes on with a new row, after the terms of `q` and below the front.
-    pub fn catch_up(&mut self, q: &[Term<R, M>], front: Option<M>, reader: RowReader<R, M>) {
+    pub fn catch_up(&mut self, q: &[Term<R, M>], front: Option<M>, reader: RowReader<R, M>)
+        requires q { IsBegun self.old.sender.state.division (sum_of M.vector R.value q.now) }
+        requires belongs { All (λ t. R.belongs self.old.sender.state.division.p t.coef) q.now }
+        requires front { (later : List PlainTerm) → sum_of M.vector R.value q.now ++ later ≡ quotient_list self.old.sender.state.division → AllUnderFront self.old.sender.state.division (vector_of M.vector front) later }
+        requires looking { IsLooking reader }
+        requires row { (reader_row reader).name ≡ record { division = self.old.sender.state.division; start = length q.now } }
+        requires nothing { known reader ≡ [] }
+        requires spare { HasRows self.old.sender.state → length q.now ≤ length self.old.sender.state.known + self.old.sender.spare }
+        ensures { CatchesUp (reader_row reader) (length q.now) (vector_of M.vector front) self.old.sender self.new.sender }
+    {
         self.sender.catch_up(q, front, reader);
     }
 }
@@ -267,6 +282,7 @@ pub(crate) fn advance<R: CoeffRing, M: Monomial, G: Gate>(
     requires name { HasName (made_with shared.now.turnstile.now) (map ring_name shared.now.rings.now) (row_identity shared.now.row.now) }
     requires ring { IsAmong (map ring_name shared.now.rings.now) (sender_of worker.old.worker.sender) }
     requires row { worker.old.worker.sender.row ≡ row_identity shared.now.row.now }
+    requires room { HasRoom worker.old.worker.sender }
     ensures pass { HasPass shared.now.turnstile.now worker.new.pass }
     ensures moves { Moves worker.old.worker.sender worker.new.worker.sender }
 {

@@ -8,6 +8,7 @@ ghost use Rattle.divide_merge.specs.Names.{row_identity};
 ghost use Rattle.divide_merge.specs.Merges.{IsSound};
 ghost use Rattle.divide_merge.specs.Reached.{divide_reached, Follows};
 ghost use Rattle.divide_workers.specs.Views.{sender_of};
+ghost use Rattle.divide_workers.specs.Working.{HasRoom};
 ghost use Rattle.divide_workers.specs.Stops.{HasName};
 ghost use Rattle.divide_workers.specs.Rounds.{AreMembers, IsTeam, IsTold, Moves, AllMove, AllMeet, IsRound};
 
@@ -34,14 +35,14 @@ fn advance_all<T: Threads + Sync, R: CoeffRing, M: Monomial, G: Gate>(
     gate: &G,
 )
     requires name { HasName (made_with shared.now.turnstile.now) (map ring_name shared.now.rings.now) (row_identity shared.now.row.now) }
-    requires have { All (λ w. HasPass shared.now.turnstile.now w.pass × IsAmong (map ring_name shared.now.rings.now) (sender_of w.worker.sender) × (w.worker.sender.row ≡ row_identity shared.now.row.now)) workers.old }
+    requires have { All (λ w. HasPass shared.now.turnstile.now w.pass × IsAmong (map ring_name shared.now.rings.now) (sender_of w.worker.sender) × (w.worker.sender.row ≡ row_identity shared.now.row.now) × HasRoom w.worker.sender) workers.old }
     ensures have { All (λ w. HasPass shared.now.turnstile.now w.pass) workers.new }
     ensures moves { AllMove (map (λ w. w.worker.sender) workers.old) (map (λ w. w.worker.sender) workers.new) }
 {
     let count = workers.len();
     if count > 0 {
         let each = |_: usize, worker: &mut Worker<'_, R, M>|
-            requires { HasPass shared.now.turnstile.now worker.now.pass × HasName (made_with shared.now.turnstile.now) (map ring_name shared.now.rings.now) (row_identity shared.now.row.now) × IsAmong (map ring_name shared.now.rings.now) (sender_of worker.now.worker.sender) × (worker.now.worker.sender.row ≡ row_identity shared.now.row.now) }
+            requires { HasPass shared.now.turnstile.now worker.now.pass × HasName (made_with shared.now.turnstile.now) (map ring_name shared.now.rings.now) (row_identity shared.now.row.now) × IsAmong (map ring_name shared.now.rings.now) (sender_of worker.now.worker.sender) × (worker.now.worker.sender.row ≡ row_identity shared.now.row.now) × HasRoom worker.now.worker.sender }
             ensures { HasPass shared.entry.now.turnstile.now worker.exit.now.pass × Moves worker.entry.now.worker.sender worker.exit.now.worker.sender }
         {
             advance(worker, shared, gate);

@@ -8,6 +8,7 @@ ghost use Rattle.divide_merge.specs.Names.{row_identity};
 ghost use Rattle.divide_merge.specs.Reached.{divide_name};
 ghost use Rattle.divide_workers.specs.Views.{sender_of};
 ghost use Rattle.divide_workers.specs.Paying.{HasRows};
+ghost use Rattle.divide_workers.specs.Working.{HasRoom};
 ghost use Rattle.divide_workers.specs.Steps.{Works, Pushes};
 ghost use Rattle.divide_workers.specs.Stops.{HasName, StaysRefused, StaysUntold, IsReceipt, TriesOnce, MayGiveUp};
 
@@ -74,6 +75,7 @@ pub(crate) fn wait_for_news<R: CoeffRing, M: Monomial>(
     requires name { HasName (made_with shared.now.turnstile.now) (map ring_name shared.now.rings.now) (row_identity shared.now.row.now) }
     requires row { sender.old.row ≡ row_identity shared.now.row.now }
     requires rows { HasRows sender.old.state }
+    requires room { HasRoom sender.old }
     requires untold { sender.old.count ≡ length sender.old.notes }
     ensures pass { IsPassOf shared.now.turnstile.now pass.new × IsOutside pass.new }
     ensures entries { entries pass.old ≤ entries pass.new }

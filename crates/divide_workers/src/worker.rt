@@ -1,19 +1,19 @@
 //! A worker of a division.
 
-ghost use Rattle.std.specs.Prelude.{◌≡◌, ◌≢◌, ◌≤◌, map, [], Some, None};
+ghost use Rattle.std.specs.Prelude.{◌≡◌, ◌≤◌, ◌+◌, map, length, [], Some, None};
 ghost use Rattle.whole_laws.specs.Notes.{QuotientScript, Carry, divisor_rows};
 ghost use Rattle.turnstile.specs.Passes.{made_with, HasPass};
 ghost use Rattle.term_ring.specs.Ends.{sent};
 ghost use Rattle.term_ring.specs.Names.{NoneBelow, ring_name, writer_name, IsWriting};
 ghost use Rattle.term_ring.specs.Sending.{IsAmong};
-ghost use Rattle.quotient_row.specs.Ends.{IsNew};
+ghost use Rattle.quotient_row.specs.Ends.{IsNew, known};
 ghost use Rattle.divide_merge.specs.Names.{IsFit, IsLooking, row_identity, reader_row};
 ghost use Rattle.divide_merge.specs.Reached.{divide_name};
 ghost use Rattle.divide_workers.specs.Views.{sender_of, script_workers};
 ghost use Rattle.divide_workers.specs.Inside.{view_of};
-ghost use Rattle.divide_workers.specs.Paying.{IsFewSent};
-ghost use Rattle.divide_workers.specs.Working.{IsWorking};
-ghost use Rattle.divide_workers.specs.Steps.{Works};
+ghost use Rattle.divide_workers.specs.Paying.{HasRows, IsFewSent};
+ghost use Rattle.divide_workers.specs.Working.{IsWorking, HasRoom};
+ghost use Rattle.divide_workers.specs.Steps.{Works, CatchesUp};
 ghost use Rattle.divide_workers.specs.Stops.{HasName, IsStop};
 ghost use Rattle.divide_workers.specs.Rounds.{Meets};
 
@@ -37,7 +37,7 @@ pub struct DivideWorker<'a, R: CoeffRing, M: Monomial> {
 }
 
 impl<'a, R: CoeffRing, M: Monomial> DivideWorker<'a, R, M> {
-    /// A worker that has learned and sent nothing, from rows that have learned nothing and have room for each note of the row, the writer of a ring with their script, and a reader of the division's first row. It allocates nothing.
+    /// A worker that has learned and sent nothing, from rows that have learned nothing, the writer of a ring with their script, and a reader of the division's first row. It allocates nothing.
     ///
     /// The worker keeps the pass, and no public call gives it back. Its rows count their comparisons and products for themselves, and nobody reads the counts.
     pub fn new(
@@ -60,7 +60,6 @@ impl<'a, R: CoeffRing, M: Monomial> DivideWorker<'a, R, M> {
         requires learned { (rows.learned ≡ []) × (rows.unread ≡ []) }
         requires sent { sent writer ≡ [] }
         requires known { IsNew reader }
-        requires room { rows.rows ≢ [] → (reader_row reader).places ≤ rows.spare }
         ensures sender { result.part.sender ≡ view_of M.vector R.value worker rows writer reader None None }
         ensures pass { result.pass ≡ Some pass }
     {
@@ -94,6 +93,7 @@ impl<'a, R: CoeffRing, M: Monomial> DivideWorker<'a, R, M> {
         requires name { HasName (made_with turnstile.now) (map ring_name rings.now) (row_identity row.now) }
         requires ring { IsAmong (map ring_name rings.now) (sender_of self.old.part.sender) }
         requires row { self.old.part.sender.row ≡ row_identity row.now }
+        requires room { HasRoom self.old.part.sender }
         ensures pass { HasPass turnstile.now self.new.pass }
         ensures works { Works self.old.part.sender self.new.part.sender }
         ensures carried { Carry self.new.part.sender.ring.script self.new.part.sender.state.sent }
@@ -130,7 +130,16 @@ impl<'a, R: CoeffRing, M: Monomial> DivideWorker<'a, R, M> {
     }
 
     /// Goes on with a new row of the merge: learns the quotient terms that it doesn't know, takes over the merge's front where that is lower, and has the reader from now on. It allocates nothing.
-    pub fn catch_up(&mut self, merge: &DivideMerge<R, M>, reader: RowReader<R, M>) {
+    pub fn catch_up(&mut self, merge: &DivideMerge<R, M>, reader: RowReader<R, M>)
+        requires division { merge.now.run.state.division ≡ self.old.part.sender.state.division }
+        requires looking { IsLooking reader }
+        requires row { (reader_row reader).name ≡ record { division = self.old.part.sender.state.division; start = length merge.now.run.state.q } }
+        requires nothing { known reader ≡ [] }
+        requires spare { HasRows self.old.part.sender.state → length merge.now.run.state.q ≤ length self.old.part.sender.state.known + self.old.part.sender.spare }
+        ensures catches_up { CatchesUp (reader_row reader) (length merge.now.run.state.q) merge.now.run.state.front self.old.part.sender self.new.part.sender }
+        ensures pass { self.new.pass ≡ self.old.pass }
+    {
+        merge.whole();
         self.part.catch_up(merge.quotient(), merge.front(), reader);
     }
 }
