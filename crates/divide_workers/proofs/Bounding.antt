@@ -1,30 +1,27 @@
 -- How many rounds a division takes at most, and what its merge says in the end.
-use Rattle.std.proofs.Common.{◌≡◌, ◌≢◌, ◌⊎◌, inl, inr, ℕ, ◌+◌, ◌-◌, ◌<◌, ◌≤◌, Bool, true, false, List, [], ◌∷◌, ◌++◌, length, slice_index_or, Option, Some, None, ℤ, pos, refl, sym, ap, ◌∙◌, subst, arith}
+use Rattle.std.proofs.Common.{◌≡◌, ℕ, ◌+◌, ◌-◌, ◌<◌, ◌≤◌, List, length, slice_index_or, Some, None, sym, ap, ◌∙◌, subst, arith}
 use Rattle.std.proofs.lemmas.List.{length-drop}
 use mathlib.Core.List.{IsPrefix}
-use Rattle.sdmp_laws.specs.Order.{Divides, over}
-use Rattle.sdmp_laws.specs.Poly.{Term, lm, lc}
-use Rattle.sdmp_laws.specs.Division.{Division, IsAccepted, IsExact, IsRem}
+use Rattle.sdmp_laws.specs.Poly.{Term}
 use Rattle.sdmp_laws.specs.LongDivision.{quotient_list}
-use Rattle.sdmp_laws.specs.Limits.{Passes, PassesBound}
+use Rattle.sdmp_laws.specs.Limits.{PassesBound}
 use Rattle.sdmp_laws.specs.declared.Mode.TheVariants.{Exact, Remainder}
-use Rattle.division_laws.specs.Outcome.{Outcome, OverBound, OverTerms, HasQuotient, HasNoQuotient, HasRemainder, IsWithin, IsOutcome}
+use Rattle.division_laws.specs.Outcome.{OverBound, OverTerms, HasQuotient, HasNoQuotient, HasRemainder, IsWithin, IsOutcome}
 use Rattle.divide_core.proofs.Turns.{list_within, passes_now, long_now}
-use Rattle.whole_laws.specs.Wholes.{notes_of}
 use Rattle.divide_wholes.specs.Row.{row_terms}
-use Rattle.divide_wholes.specs.Wholes.{DivideState, DivideWhole, IsFinished, IsCandidate}
+use Rattle.divide_wholes.specs.Wholes.{DivideState, IsFinished}
 use Rattle.divide_wholes.proofs.Candidate.{candidate_term, candidate_none, finished_is_right}
 use Rattle.term_ring.specs.Names.{RingName}
-use Rattle.dividing_rounds.specs.Found.{read_coef, term_at, Fits, IsNext}
-use Rattle.dividing_rounds.specs.Runs.{DivideRun, RunWhole}
+use Rattle.dividing_rounds.specs.Found.{IsNext}
+use Rattle.dividing_rounds.specs.Runs.{RunWhole}
 use Rattle.dividing_rounds.specs.Counting.{NotesFit}
-use Rattle.dividing_rounds.specs.Rounds.{progress, most_rounds}
+use Rattle.dividing_rounds.specs.Rounds.{progress}
 use Rattle.dividing_rounds.specs.Stalls.{GoesOn}
 use Rattle.dividing_rounds.proofs.WorkloadLemmas.{candidate_last}
 use Rattle.dividing_rounds.proofs.CountingLemmas.{counted_fit}
 use Rattle.dividing_rounds.proofs.StallLemmas.{nobody_stuck}
 use Rattle.dividing_rounds.proofs.RoundLemmas.{rounds_fit}
-use Rattle.divide_merge.specs.Verdicts.{IsPresentAt, IsTermDue, IsLeftOver, with_term, Verdict, Finishes, HasNone, PassesNorm, PassesCount, IsVerdict}
+use Rattle.divide_merge.specs.Verdicts.{IsPresentAt, IsTermDue, with_term, Finishes, HasNone, PassesNorm, PassesCount, IsVerdict}
 use Rattle.divide_merge.specs.Merges.{DivideView, IsSound}
 use Rattle.divide_workers.specs.Views.{WorkerView}
 use Rattle.divide_workers.specs.Working.{IsWorking}

@@ -1,14 +1,11 @@
 -- Monomials compared with fronts.
-use Rattle.std.proofs.Common.{◌≡◌, ◌⊎◌, inl, inr, ℕ, ◌↔◌, Bool, true, false, true≢false, ◌||◌, IsTrue, List, length, Option, Some, None, refl, sym, ap, ◌∙◌, subst}
+use Rattle.std.proofs.Common.{◌≡◌, ◌⊎◌, inl, inr, ℕ, ◌↔◌, Bool, true, false, true≢false, IsTrue, List, length, Some, refl, sym, ap, ◌∙◌, subst}
 use Rattle.std.specs.declared.cmp.Ordering.{Ordering}
 use Rattle.std.specs.declared.cmp.Ordering.TheVariants.{Less, Equal, Greater}
-use Rattle.sdmp_laws.specs.Order.{Order, ◌⋅◌, Below, compare}
-use Rattle.sdmp_laws.specs.Poly.{Term}
-use Rattle.sdmp_laws.specs.Division.{Division, AtOrAbove}
+use Rattle.sdmp_laws.specs.Order.{Order, Below, compare}
 use Rattle.sdmp_laws.proofs.OrderLemmas.{order_facts}
 use Rattle.sdmp_laws.proofs.CompareLemmas.{compare_less, compare_greater, compare_same}
-use Rattle.divide_wholes.specs.Wholes.{AllUnderFront, AllBelowFront}
-use Rattle.divide_workers.specs.Fronts.{PlainFront, IsPastBy, UnderBy, IsAhead, FrontFalls, may_stay}
+use Rattle.divide_workers.specs.Fronts.{PlainFront, IsPastBy, FrontFalls, may_stay}
 
 -- what a comparison of a with b tells
 abbrev pub Tells : Order → List ℕ → List ℕ → Ordering → Type 0
@@ -74,13 +71,3 @@ falls_at true false ord m n e h = absurd (true≢false (sym (h refl)))
 pub falls_equal : (ord : Order) (a b : PlainFront) → b.mono ≡ a.mono → (IsTrue a.is_strict → IsTrue b.is_strict) → FrontFalls ord (Some a) (Some b)
 unfolding FrontFalls
 falls_equal ord a b e h = falls_at a.is_strict b.is_strict ord a.mono b.mono e h
-
--- what two fronts at one monomial say together
-both_by : (r s : Bool) (d : Division) (m n : List ℕ) (later : List Term) → n ≡ m → UnderBy r d m later → UnderBy s d n later → UnderBy (r || s) d m later
-unfolding UnderBy
-both_by true s d m n later e h k = h
-both_by false true d m n later e h k = subst (λ (x : List ℕ). AllBelowFront d x later) e k
-both_by false false d m n later e h k = h
-
-pub both_say : (d : Division) (a b : PlainFront) (later : List Term) → b.mono ≡ a.mono → IsAhead d (Some a) later → IsAhead d (Some b) later → IsAhead d (Some record { mono = a.mono; is_strict = a.is_strict || b.is_strict }) later
-both_say d a b later e h k = both_by a.is_strict b.is_strict d a.mono b.mono later e h k

@@ -1,28 +1,27 @@
 -- A dividing worker that waits after a meeting has said what it can.
-use Rattle.std.proofs.Common.{◌≡◌, ◌≢◌, ◌⊎◌, inl, inr, ℕ, suc, ◌+◌, ◌*◌, ◌^◌, ◌%◌, ◌<◌, ◌≤◌, max, Bool, true, false, cond, eqb, List, [], ◌∷◌, ◌++◌, length, slice_index_or, Option, Some, None, IfSome, refl, sym, ap, ◌∙◌, subst, arith, append-nil, length-append}
+use Rattle.std.proofs.Common.{◌≡◌, ◌≢◌, ◌⊎◌, inl, inr, ℕ, suc, ◌+◌, ◌*◌, ◌^◌, ◌%◌, ◌<◌, ◌≤◌, max, Bool, true, false, cond, eqb, List, [], ◌∷◌, length, slice_index_or, Option, Some, None, IfSome, sym, ap, ◌∙◌, subst, arith, append-nil, length-append}
 use Rattle.std.proofs.Math.Nat.{le_trans, mul-le-mul_left, mul-le-mul_right}
 use mathlib.Core.List.{IsPrefix}
 use Rattle.sdmp_laws.specs.Poly.{Term, every}
 use Rattle.sdmp_laws.specs.Division.{Division}
-use Rattle.sdmp_laws.specs.Limits.{PassesBound, quotient_terms_limit}
-use Rattle.whole_laws.specs.Notes.{Script, ProductScript, QuotientScript, after_lead, divisor_rows}
-use Rattle.whole_laws.specs.Wholes.{notes_of, head_of_worker}
+use Rattle.sdmp_laws.specs.Limits.{quotient_terms_limit}
+use Rattle.whole_laws.specs.Notes.{QuotientScript, after_lead, divisor_rows}
+use Rattle.whole_laws.specs.Wholes.{notes_of}
 use Rattle.divide_wholes.specs.Wholes.{latest_mark}
-use Rattle.divide_wholes.specs.Row.{row_terms, front_after}
+use Rattle.divide_wholes.specs.Row.{row_terms}
 use Rattle.divide_wholes.specs.Workers.{WorkerState, worker_rows, worker_script}
-use Rattle.term_ring.specs.Rule.{LeavesNoRoom}
 use Rattle.term_ring.specs.Names.{RingName, NoneBelow}
-use Rattle.term_ring.specs.Sending.{Sends, HasMet, IsRefused}
-use Rattle.dividing_rounds.specs.Runs.{DivideRun, RunWhole}
-use Rattle.dividing_rounds.specs.Stalls.{IsAsked, IsHeard, HasWaited, IsHeld, IsLowered}
+use Rattle.term_ring.specs.Sending.{IsRefused}
+use Rattle.dividing_rounds.specs.Runs.{DivideRun}
+use Rattle.dividing_rounds.specs.Stalls.{HasWaited, IsHeld, IsLowered}
 use Rattle.dividing_rounds.proofs.StallLemmas.{heard_has_waited}
-use Rattle.divide_merge.specs.Names.{HasScripts, script_division}
+use Rattle.divide_merge.specs.Names.{script_division}
 use Rattle.divide_merge.specs.Merges.{DivideView, IsSound, IsStarved, taken_of}
 use Rattle.divide_workers.specs.Fronts.{PlainFront, front_mono, FrontFalls}
 use Rattle.divide_workers.specs.Paying.{HasRows, IsMarked}
 use Rattle.divide_workers.specs.Views.{WorkerView, sender_of, script_workers}
 use Rattle.divide_workers.specs.Working.{IsWorking}
-use Rattle.divide_workers.specs.Steps.{Works, HoldsBack}
+use Rattle.divide_workers.specs.Steps.{HoldsBack}
 use Rattle.divide_workers.specs.Rounds.{Moves, Meets, IsMember, HasHeard, IsUpToDate}
 use Rattle.divide_workers.proofs.Ahead.{same_begin, lowered_again}
 use Rattle.divide_workers.proofs.Falling.{IsFrontVector}

@@ -1,22 +1,18 @@
 -- What a dividing worker may not hand out.
-use Rattle.std.proofs.Common.{◌≡◌, ◌≢◌, ◌⊎◌, inl, inr, ℕ, ◌+◌, ◌<◌, ◌≤◌, Bool, true, false, true≢false, List, [], ◌∷◌, ◌++◌, length, Option, Some, None, refl, sym, ap, ◌∙◌, subst, arith, All}
+use Rattle.std.proofs.Common.{◌≡◌, ◌⊎◌, inl, inr, ℕ, ◌+◌, ◌<◌, ◌≤◌, Bool, true, false, true≢false, List, [], ◌∷◌, length, sym, ap, ◌∙◌, subst, arith, All}
 use Rattle.std.proofs.lemmas.List.Elements.{All-head, All-tail}
-use mathlib.Core.List.{IsPrefix}
 use Rattle.sdmp_laws.specs.Order.{Order, ◌⋅◌, alike, degree, Below}
 use Rattle.sdmp_laws.specs.Poly.{Term, AllBelow, AllDegrees, Decreasing, lm}
 use Rattle.sdmp_laws.specs.Division.{Division, IsAccepted, AtOrAbove}
-use Rattle.sdmp_laws.specs.LongDivision.{quotient_list}
 use Rattle.sdmp_laws.proofs.OrderLemmas.{order_facts, alike_same, degree_times}
 use Rattle.sdmp_laws.proofs.Tests.{or_out}
 use Rattle.sdmp_laws.proofs.LongLemmas.{below_degree}
 use Rattle.sdmp_laws.proofs.ListLemmas.{All-front, each_degree, Decreasing-every}
 use Rattle.whole_laws.specs.Notes.{has, after_lead, divisor_rows, IsProductMonomial}
-use Rattle.divide_wholes.specs.Workers.{IsTop, worker_rows}
-use Rattle.dividing_rounds.specs.Stalls.{IsHeld}
-use Rattle.divide_workers.specs.Fronts.{PlainFront, front_mono, IsPastBy, IsPast}
+use Rattle.divide_wholes.specs.Workers.{worker_rows}
+use Rattle.divide_workers.specs.Fronts.{IsPastBy}
 use Rattle.divide_workers.specs.Views.{WorkerView}
 use Rattle.divide_workers.specs.Working.{IsWorking}
-use Rattle.divide_workers.specs.Steps.{IsAllHeld, IsFrontier}
 use Rattle.divide_workers.proofs.Ahead.{quotient_low}
 
 -- ---- by the order

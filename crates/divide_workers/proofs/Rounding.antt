@@ -1,15 +1,13 @@
 -- A round of a division leaves its merge over, or farther than it was.
-use Rattle.std.proofs.Common.{◌≡◌, ◌≢◌, ◌⊎◌, inl, inr, ℕ, ◌+◌, ◌-◌, ◌<◌, ◌≤◌, Bool, true, false, true≢false, List, [], ◌∷◌, length, slice_index_or, Option, Some, None, refl, sym, ap, ◌∙◌, subst, arith}
+use Rattle.std.proofs.Common.{◌≡◌, ◌⊎◌, inl, inr, ℕ, ◌-◌, ◌<◌, ◌≤◌, true, false, true≢false, List, length, slice_index_or, Some, refl, sym, ap, ◌∙◌, subst, arith}
 use Rattle.std.specs.Option.{is_some}
-use Rattle.sdmp_laws.specs.Division.{Division, IsAccepted}
-use Rattle.whole_laws.specs.Notes.{divisor_rows}
-use Rattle.divide_wholes.specs.Wholes.{DivideState}
+use Rattle.sdmp_laws.specs.Division.{IsAccepted}
 use Rattle.term_ring.specs.Names.{RingName, NoneBelow}
 use Rattle.dividing_rounds.specs.Runs.{DivideRun}
 use Rattle.dividing_rounds.specs.Rounds.{progress}
-use Rattle.dividing_rounds.specs.Stalls.{IsAsked, HasWaited, IsDue}
+use Rattle.dividing_rounds.specs.Stalls.{IsAsked, HasWaited}
 use Rattle.dividing_rounds.proofs.StallLemmas.{no_stall}
-use Rattle.divide_merge.specs.Verdicts.{Verdict, Finishes, HasNone, PassesNorm, PassesCount, IsBlocked, RowIsFull, OutIsFull, IsVerdict, IsFinal, kept_of, HoldsUp, OneVerdict}
+use Rattle.divide_merge.specs.Verdicts.{Verdict, Finishes, HasNone, PassesNorm, PassesCount, IsBlocked, RowIsFull, OutIsFull, IsVerdict, kept_of, OneVerdict}
 use Rattle.divide_merge.specs.Merges.{DivideView, IsSound, AllStarved, IsAskedInVain, free_places}
 use Rattle.divide_merge.specs.Reached.{DivideReach, divide_reached, Follows}
 use Rattle.divide_workers.specs.Views.{WorkerView}

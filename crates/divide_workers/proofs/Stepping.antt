@@ -1,28 +1,28 @@
 -- What always holds of a dividing worker stays at each step.
-use Rattle.std.proofs.Common.{◌≡◌, ◌≢◌, ◌⊎◌, inl, inr, ℕ, ◌+◌, ◌<◌, ◌≤◌, Bool, true, false, List, [], ◌∷◌, ◌++◌, length, Option, Some, None, refl, sym, ap, ◌∙◌, subst, arith, All, IsPermutation, length-append, append_assoc, append-nil}
+use Rattle.std.proofs.Common.{◌≡◌, ◌≢◌, ℕ, ◌+◌, ◌<◌, ◌≤◌, true, false, List, [], ◌∷◌, ◌++◌, length, Option, Some, None, refl, sym, ap, ◌∙◌, subst, arith, All, IsPermutation, length-append, append_assoc}
 use Rattle.std.proofs.lemmas.List.{length_push}
 use mathlib.Core.List.{IsPrefix}
 use Rattle.sdmp_laws.specs.Order.{◌⋅◌}
 use Rattle.sdmp_laws.specs.Poly.{Term, coef, row, AllBelow, lm}
-use Rattle.sdmp_laws.specs.Division.{Division, IsAccepted}
+use Rattle.sdmp_laws.specs.Division.{Division}
 use Rattle.sdmp_laws.specs.LongDivision.{quotient_list}
 use Rattle.sdmp_laws.specs.Limits.{PassesBound}
 use Rattle.sdmp_laws.proofs.PlaceLemmas.{length_prefix}
-use Rattle.whole_laws.specs.Notes.{TermNote, MarkNote, Carry, MayFollow}
+use Rattle.whole_laws.specs.Notes.{TermNote, MarkNote, MayFollow}
 use Rattle.divide_wholes.specs.Wholes.{latest_mark}
 use Rattle.divide_wholes.specs.Row.{RowNote, RowTerm, RowFront, row_terms, front_after, known_after, RowMayFollow, RowCarryAfter, RowCarry}
-use Rattle.divide_wholes.specs.Workers.{WorkerState, WorkerWhole, IsTop, worker_rows, worker_script, sum_at}
+use Rattle.divide_wholes.specs.Workers.{WorkerState, IsTop, worker_rows, worker_script, sum_at}
 use Rattle.divide_wholes.proofs.RowLemmas.{row_terms-append, row_terms-front}
 use Rattle.divide_wholes.proofs.MarkLemmas.{worker_learn, worker_hand, worker_send, worker_mark}
 use Rattle.dividing_rounds.specs.Stalls.{IsLowered}
-use Rattle.divide_workers.specs.Fronts.{PlainFront, front_mono, IsAhead, IsPast, FrontFalls}
-use Rattle.divide_workers.specs.Paying.{HasRows, HasPaid}
+use Rattle.divide_workers.specs.Fronts.{PlainFront, IsAhead, IsPast, FrontFalls}
+use Rattle.divide_workers.specs.Paying.{HasRows}
 use Rattle.divide_merge.specs.Names.{RowIdentity}
 use Rattle.divide_workers.specs.Views.{WorkerView}
 use Rattle.divide_workers.specs.Working.{IsWorking}
 use Rattle.divide_workers.proofs.Falling.{IsFrontVector, past_falls}
 use Rattle.divide_workers.proofs.Paying.{learn_pays, fall_pays, hand_pays, send_pays, mark_pays, mark_rises}
-use Rattle.divide_workers.proofs.Ahead.{ahead_back, begins_longer, same_begin, followed, known_length, ahead_of_term, ahead_of_front, past_is_beyond, front_at_term, front_at_front, falls_lowered, lowered_again}
+use Rattle.divide_workers.proofs.Ahead.{ahead_back, same_begin, followed, known_length, ahead_of_term, ahead_of_front, past_is_beyond, front_at_term, front_at_front, falls_lowered, lowered_again}
 
 shorter : {A : Type 0} (xs ys zs : List A) → IsPrefix (xs ++ ys) zs → IsPrefix xs zs
 shorter xs ys zs p = (ys ++ p.0, sym (append_assoc xs ys p.0) ∙ p.1)

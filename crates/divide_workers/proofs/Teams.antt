@@ -1,5 +1,5 @@
 -- What is known of the workers at the beginning of a round holds again in its end, and with a new row.
-use Rattle.std.proofs.Common.{◌≡◌, ◌≢◌, ◌⊎◌, inl, inr, ℕ, ◌+◌, ◌<◌, ◌≤◌, max, List, [], ◌∷◌, length, slice_index_or, Option, Some, None, refl, sym, ap, ◌∙◌, subst, arith}
+use Rattle.std.proofs.Common.{◌≡◌, ℕ, ◌+◌, ◌<◌, ◌≤◌, max, List, [], ◌∷◌, length, slice_index_or, Option, refl, sym, ap, ◌∙◌, subst, arith}
 use mathlib.Core.List.{IsPrefix}
 use Rattle.sdmp_laws.specs.Poly.{Term}
 use Rattle.sdmp_laws.specs.Division.{Division}
@@ -10,13 +10,13 @@ use Rattle.divide_wholes.specs.MergeRow.{with_new_row}
 use Rattle.dividing_rounds.specs.Runs.{DivideRun, RunWhole}
 use Rattle.dividing_rounds.specs.Stalls.{IsLowered}
 use Rattle.divide_merge.specs.Names.{RowIdentity}
-use Rattle.divide_merge.specs.Merges.{DivideView, IsSound}
+use Rattle.divide_merge.specs.Merges.{DivideView}
 use Rattle.divide_workers.specs.Fronts.{PlainFront, front_mono, FrontFalls}
 use Rattle.divide_workers.specs.Paying.{HasRows}
-use Rattle.divide_workers.specs.Views.{WorkerView, sender_of}
+use Rattle.divide_workers.specs.Views.{WorkerView}
 use Rattle.divide_workers.specs.Working.{HasRoom}
 use Rattle.divide_workers.specs.Steps.{Works, CatchesUp}
-use Rattle.divide_workers.specs.Rounds.{Moves, Meets, AllMove, AllMeet, IsMember, AreMembers, HasHeard, IsTold, IsUpToDate, IsTeam}
+use Rattle.divide_workers.specs.Rounds.{Moves, Meets, AllMove, AllMeet, IsMember, AreMembers, IsTold, IsUpToDate}
 use Rattle.divide_workers.proofs.Ahead.{lowered_again}
 use Rattle.divide_workers.proofs.Working.{more_terms}
 use Rattle.divide_workers.proofs.Bounding.{known_few}

@@ -1,16 +1,15 @@
 -- The steps of a dividing worker, one after another.
-use Rattle.std.proofs.Common.{◌≡◌, ℕ, ◌+◌, ◌<◌, ◌≤◌, max, List, [], ◌∷◌, ◌++◌, length, refl, sym, ap, ◌∙◌, subst, arith, append_assoc, append-nil, length-append}
+use Rattle.std.proofs.Common.{◌≡◌, ℕ, ◌+◌, ◌≤◌, max, List, [], ◌++◌, length, refl, sym, ap, ◌∙◌, subst, arith, append_assoc, append-nil, length-append}
 use mathlib.Core.List.{IsPrefix}
 use Rattle.sdmp_laws.specs.Poly.{Term}
 use Rattle.divide_wholes.specs.Row.{RowNote, row_terms}
 use Rattle.divide_wholes.specs.Workers.{worker_rows}
 use Rattle.divide_wholes.proofs.RowLemmas.{row_terms-append}
-use Rattle.term_ring.specs.Sending.{Sends}
 use Rattle.divide_workers.specs.Fronts.{FrontFalls}
 use Rattle.divide_workers.specs.Paying.{HasRows}
-use Rattle.divide_workers.specs.Views.{WorkerView, sender_of}
+use Rattle.divide_workers.specs.Views.{WorkerView}
 use Rattle.divide_workers.specs.Working.{IsWorking}
-use Rattle.divide_workers.specs.Steps.{Works, HoldsBack}
+use Rattle.divide_workers.specs.Steps.{Works}
 use Rattle.divide_workers.proofs.Falling.{falls_itself, falls_again}
 
 prefix_again : {A : Type 0} (xs ys zs : List A) → IsPrefix xs ys → IsPrefix ys zs → IsPrefix xs zs
