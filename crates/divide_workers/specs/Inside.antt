@@ -22,11 +22,11 @@ use Rattle.divide_workers.specs.Working.{IsWorking}
 use Rattle.divide_workers.specs.declared.front.Front.{Front}
 use Rattle.divide_workers.specs.declared.mark.Mark.{Mark}
 
-module _ {X M E : Type 0} (vector : M → List ℕ) (value : E → ℤ) where
-  abbrev pub kept_terms : Option (TermOf M E) → List Term
-  kept_terms None = []
-  kept_terms (Some t) = term_of vector value t ∷ []
+abbrev pub kept_terms : {M E : Type 0} → (M → List ℕ) → (E → ℤ) → Option (TermOf M E) → List Term
+kept_terms vector value None = []
+kept_terms vector value (Some t) = term_of vector value t ∷ []
 
+module _ {X M E : Type 0} (vector : M → List ℕ) (value : E → ℤ) where
   abbrev pub state_of : ℕ → QuotientState → Writer X M E → Option (TermOf M E) → WorkerState
   state_of worker rows writer kept =
       record {
@@ -35,7 +35,7 @@ module _ {X M E : Type 0} (vector : M → List ℕ) (value : E → ℤ) where
         worker = worker;
         known = rows.learned;
         unread = rows.unread;
-        kept = kept_terms kept;
+        kept = kept_terms vector value kept;
         sent = notes_of vector value (sent writer);
       }
 
