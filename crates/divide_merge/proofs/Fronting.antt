@@ -5,26 +5,29 @@ use Rattle.std.proofs.lemmas.Option.{MatchOption-from_none}
 use Rattle.sdmp_laws.specs.Order.{Order, Divides}
 use Rattle.sdmp_laws.specs.Poly.{lm}
 use Rattle.sdmp_laws.specs.Division.{Division, AtOrAbove}
-use Rattle.divide_wholes.specs.Row.{RowNote, RowFront, RowMayFollow, row_terms}
+use Rattle.divide_wholes.specs.Row.{RowNote, RowFront, RowCarry, row_terms}
 use Rattle.divide_wholes.specs.Wholes.{DivideState, IsFrontAt}
 use Rattle.divide_wholes.proofs.RowLemmas.{row_terms-front}
 use Rattle.canonical_terms.specs.View.{sum_of}
 use Rattle.dividing_rounds.specs.Runs.{DivideRun, RunWhole, IsFrontFor, run_front}
 use Rattle.dividing_rounds.specs.Stalls.{IsDue}
 use Rattle.ring_heads.specs.Heads.{plain_heads}
-use Rattle.quotient_row.specs.Ends.{published}
+use Rattle.quotient_row.specs.Ends.{published, IsWriterOf, name_of}
+use Rattle.quotient_row.specs.Legal.{Legal}
 use Rattle.quotient_row.specs.Spelling.{notes_of as row_notes_of, note_of as row_note_of}
+use Rattle.quotient_row.specs.declared.row.Row.{Row}
 use Rattle.quotient_row.specs.declared.row.RowWriter.{RowWriter}
 use Rattle.quotient_row.specs.declared.note.RowNoteOf.TheVariants as row_note
 use Rattle.term_ring.specs.Names.{reader_name}
-use Rattle.divide_merge.specs.Names.{RowIdentity, writer_row, IsPublishing, first_division, IsFit}
-use Rattle.divide_merge.specs.Merges.{free_places}
+use Rattle.divide_merge.specs.Names.{RowIdentity, row_identity, writer_row, IsPublishing, first_division, IsFit}
+use Rattle.divide_merge.specs.Merges.{DivideView, IsSound, free_places}
 use Rattle.divide_merge.specs.Steps.{PublishesFront}
 use Rattle.divide_merge.specs.Inside.{Held, vector_of, answer_of, taken_notes, published_notes, divide_state, divide_run, divide_view, IsMadeFor, IsDivideMerge}
 use Rattle.dividing_rounds.proofs.LogLemmas.{counts_fit}
 use Rattle.dividing_rounds.proofs.RunLemmas.{run_front_law}
 use Rattle.dividing_rounds.proofs.StallLemmas.{due_is_bound}
-use Rattle.divide_merge.proofs.Sound.{workload_low}
+use Rattle.divide_merge.proofs.Publishing.{row_of, legal_after}
+use Rattle.divide_merge.proofs.Sound.{workload_low, is_sound}
 
 module _ {X M E : Type 0} (vector : M → List ℕ) (value : E → ℤ) (belongs : ℕ → E → Type 0) (ord : Order) (n lim p quotient_room rest_room : ℕ) where
   -- a front y may be published for the bound b
@@ -68,8 +71,9 @@ module _ {X M E : Type 0} (vector : M → List ℕ) (value : E → ℤ) (belongs
           no_higher = no_higher;
         }
 
-    pub may_follow : RowMayFollow d (writer_row h.writer).name.start (published_notes vector value h.writer) (RowFront (vector y))
-    may_follow = (run_front_law (divide_run vector value h) (vector b) (vector y) fit.accepted f.kept.whole front_for).0
+    pub front_carried : RowCarry d (writer_row h.writer).name.start (published_notes vector value h.writer ++ RowFront (vector y) ∷ [])
+    unfolding run_front
+    front_carried = (run_front_law (divide_run vector value h) (vector b) (vector y) fit.accepted f.kept.whole front_for).1.row.carried
 
     -- one more may be counted
     pub fronts_low : h.fronts + 1 < 2 ^ 64
@@ -130,3 +134,53 @@ module _ {X M E : Type 0} (vector : M → List ℕ) (value : E → ℤ) (belongs
 
       pub front_view : Published → PublishesFront (divide_view vector value h) (divide_view vector value (record h { writer = w; front = Some y; fronts = h.fronts + 1 })) (vector b)
       front_view u = record { steady = record { rings = refl; row = u.row; tails = refl; looks = refl }; front = vector y; no_higher = no_higher; run = fronted_run u; answer = refl; spare = refl }
+
+-- ---- the step, as contracts say it
+module _ {X M E : Type 0} (vector : M → List ℕ) (value : E → ℤ) (belongs : ℕ → E → Type 0) (ord : Order) (n lim p quotient_room rest_room : ℕ) where
+  -- the view is that of the fields, and the front y is as low as it may be at the bound b
+  pub record Given (h : Held X M E) (b y : M) (v : DivideView) : Type 0 where
+    pub kept : IsDivideMerge vector value belongs ord n lim p quotient_room rest_room h
+    pub view : divide_view vector value h ≡ v
+    pub going : v.answer ≡ None
+    pub due : IsDue v.run.state (vector b)
+    pub long : length (vector y) ≡ n
+    pub below : AtOrAbove ord (vector y) (vector b)
+    pub multiples : (m : List ℕ) → length m ≡ n → Divides (vector h.divisor.lead.term.mono) m → AtOrAbove ord m (vector b) → AtOrAbove ord m (vector y)
+
+  module _ (h : Held X M E) (b y : M) (v : DivideView) (g : Given h b y v) where
+    pub fronted_at : Fronted vector value belongs ord n lim p quotient_room rest_room h b y
+    fronted_at = record {
+      kept = g.kept;
+      going = ap (λ (u : DivideView). u.answer) g.view ∙ g.going;
+      due = subst (λ (u : DivideView). IsDue u.run.state (vector b)) (sym g.view) g.due;
+      long = g.long;
+      below = g.below;
+      multiples = g.multiples;
+    }
+
+    module _ (row : Row X M E) (same : v.row ≡ row_identity row) where
+      pub own_row : writer_row h.writer ≡ row_identity row
+      own_row = ap (λ (u : DivideView). u.row) g.view ∙ same
+
+      pub front_legal : Legal vector value (name_of row) (published h.writer ++ row_note.Front y ∷ [])
+      front_legal = legal_after row vector value h own_row (first_division (map reader_name h.readers)) (row_note.Front y) g.kept.made_for.row_division (front_carried vector value belongs ord n lim p quotient_room rest_room h b y fronted_at)
+
+      module _ (w : RowWriter X M E) where
+        pub record Done : Type 0 where
+          pub kept : IsDivideMerge vector value belongs ord n lim p quotient_room rest_room (record h { writer = w; front = Some y; fronts = h.fronts + 1 })
+          pub sound : IsSound lim (divide_view vector value (record h { writer = w; front = Some y; fronts = h.fronts + 1 }))
+          pub publishes : PublishesFront v (divide_view vector value (record h { writer = w; front = Some y; fronts = h.fronts + 1 })) (vector b)
+
+        pub front_there : IsWriterOf row w → published w ≡ published h.writer ++ row_note.Front y ∷ [] → 0 < free_places v → Done
+        front_there of notes place =
+            let u = record {
+              row = row_of row w of ∙ sym own_row;
+              notes = notes;
+              publishing = of.0;
+              place = subst (λ (u : DivideView). 0 < free_places u) (sym g.view) place;
+            } in
+            let kept = front_kept vector value belongs ord n lim p quotient_room rest_room h b y fronted_at w u in record {
+              kept = kept;
+              sound = is_sound vector value belongs ord n lim p quotient_room rest_room (record h { writer = w; front = Some y; fronts = h.fronts + 1 }) kept;
+              publishes = subst (λ (u : DivideView). PublishesFront u (divide_view vector value (record h { writer = w; front = Some y; fronts = h.fronts + 1 })) (vector b)) g.view (front_view vector value belongs ord n lim p quotient_room rest_room h b y fronted_at w u);
+            }

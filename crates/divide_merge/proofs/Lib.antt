@@ -13,6 +13,7 @@ pub mod Bounds
 pub mod Coefficient
 pub mod Clearing
 pub mod Running
+pub mod Publishing
 pub mod Fronting
 pub mod LowerLemmas
 pub mod Ending

@@ -1,9 +1,14 @@
 -- The least and the greatest multiple of a monomial of one degree.
-use Rattle.std.proofs.Common.{◌≡◌, ◌⊎◌, inl, inr, ℕ, zero, suc, ◌+◌, ◌-◌, ◌<◌, ◌≤◌, List, [], ◌∷◌, length, set, refl, sym, ap, ◌∙◌, subst, arith, length-set}
-use Rattle.sdmp_laws.specs.Order.{Order, ◌⋅◌, degree, Divides, over, LexBelow, RevBelow, TieBelow, Below, zeros}
+use Rattle.std.proofs.Common.{◌≡◌, ◌⊎◌, inl, inr, ℕ, zero, suc, ◌+◌, ◌-◌, ◌<◌, ◌≤◌, true≢false, List, [], ◌∷◌, length, set, take, Option, Some, None, IfSome, refl, sym, ap, ◌∙◌, subst, arith, length-set}
+use Rattle.std.proofs.Math.Seq.{take-set-lt}
+use Rattle.std.specs.Option.{unwrap_or}
+use Rattle.std.specs.Ordering.{is_lt}
+use Rattle.std.specs.declared.cmp.Ordering.TheVariants.{Less}
+use Rattle.sdmp_laws.specs.Order.{Order, ◌⋅◌, degree, Divides, over, LexBelow, RevBelow, TieBelow, Below, zeros, compare}
 use Rattle.sdmp_laws.specs.declared.Order.TheVariants as order
 use Rattle.sdmp_laws.specs.Division.{AtOrAbove}
-use Rattle.sdmp_laws.proofs.OrderLemmas.{order_facts, times_comm, degree_times, degree_zeros, zeros_from_degree}
+use Rattle.sdmp_laws.proofs.CompareLemmas.{compare_same, compare_greater}
+use Rattle.sdmp_laws.proofs.OrderLemmas.{Three, is_less, is_equal, is_greater, below_total, order_facts, times_comm, degree_times, degree_zeros, zeros_from_degree}
 use Rattle.sdmp_laws.proofs.LongLemmas.{over_times, length_over, below_degree}
 use Rattle.divide_merge.specs.Lower.{power, IsLeastAbove}
 
@@ -13,11 +18,14 @@ last_power zero k = []
 last_power (suc zero) k = k ∷ []
 last_power (suc (suc n)) k = 0 ∷ last_power (suc n) k
 
-last_is : (n k : ℕ) → 0 < n → power n (n - 1) k ≡ last_power n k
+last_at : (n k : ℕ) → set (zeros (suc n)) n k ≡ last_power (suc n) k
 unfolding zeros last_power
+last_at zero k = refl
+last_at (suc n) k = ap (λ (v : List ℕ). 0 ∷ v) (last_at n k)
+
+last_is : (n k : ℕ) → 0 < n → power n (n - 1) k ≡ last_power n k
 last_is zero k l = absurd (omega arith)
-last_is (suc zero) k l = refl
-last_is (suc (suc n)) k l = ap (λ (v : List ℕ). 0 ∷ v) (last_is (suc n) k (omega arith))
+last_is (suc n) k l = ap (λ (i : ℕ). set (zeros (suc n)) i k) (let e : suc n - 1 ≡ n = omega arith in e) ∙ last_at n k
 
 first_is : (n k : ℕ) → power (suc n) 0 k ≡ k ∷ zeros n
 unfolding zeros
@@ -26,7 +34,7 @@ first_is n k = refl
 last_degree : (n k : ℕ) → degree (last_power (suc n) k) ≡ k
 unfolding last_power degree
 last_degree zero k = omega arith
-last_degree (suc n) k = last_degree n k
+last_degree (suc n) k = let d = last_degree n k in omega arith
 
 -- ---- the least vector of a degree
 lex_least : (n k : ℕ) (e : List ℕ) → length e ≡ suc n → degree e ≡ k → (last_power (suc n) k ≡ e) ⊎ LexBelow (last_power (suc n) k) e
@@ -36,7 +44,7 @@ lex_least zero k (x ∷ []) l d = inl (ap (λ (z : ℕ). z ∷ []) (omega arith)
 lex_least zero k (x ∷ y ∷ es) l d = absurd (omega arith)
 lex_least (suc n) k (zero ∷ es) l d = pick (lex_least n k es (omega arith) (omega arith))
   where
-    pick : (last_power (suc n) k ≡ es) ⊎ LexBelow (last_power (suc n) k) es → (0 ∷ last_power (suc n) k ≡ 0 ∷ es) ⊎ ((0 < 0) ⊎ ((0 ≡ 0) × LexBelow (last_power (suc n) k) es))
+    pick : (last_power (suc n) k ≡ es) ⊎ LexBelow (last_power (suc n) k) es → (0 ∷ last_power (suc n) k ≡ 0 ∷ es) ⊎ ((0 < 0) ⊎ ((◌≡◌ {A = ℕ} 0 0) × LexBelow (last_power (suc n) k) es))
     pick (inl e) = inl (ap (λ (v : List ℕ). 0 ∷ v) e)
     pick (inr b) = inr (inr (refl, b))
 lex_least (suc n) k (suc x ∷ es) l d = inr (inl (omega arith))
@@ -46,7 +54,7 @@ unfolding last_power degree RevBelow
 rev_least n k [] l d = absurd (omega arith)
 rev_least zero k (x ∷ []) l d = pick (grind arith)
   where
-    pick : (x ≡ k) ⊎ (x < k) → (k ∷ [] ≡ x ∷ []) ⊎ (⊥ ⊎ (([] ≡ []) × (x < k)))
+    pick : (x ≡ k) ⊎ (x < k) → (k ∷ [] ≡ x ∷ []) ⊎ (⊥ ⊎ ((◌≡◌ {A = List ℕ} [] []) × (x < k)))
     pick (inl e) = inl (ap (λ (z : ℕ). z ∷ []) (sym e))
     pick (inr b) = inr (inr (refl, b))
 rev_least zero k (x ∷ y ∷ es) l d = absurd (omega arith)
@@ -155,15 +163,15 @@ lower_degree ord n k l b m long db h d at = pick (grind (arith, at_degree ord m 
     q : (over m l ⋅ l ≡ m) × (length (over m l) ≡ length m) × (degree (over m l) + degree l ≡ degree m)
     q = quotient_of l m d
 
+    least : (n : ℕ) → 0 < n → length (over m l) ≡ n → degree (over m l) ≡ k → AtOrAbove ord (power n (n - 1) k) (over m l)
+    least zero some long d = absurd (omega arith)
+    least (suc n) some long d = subst (λ (v : List ℕ). AtOrAbove ord v (over m l)) (sym (last_is (suc n) k some)) (least_power ord n k (over m l) long d)
+
     above : degree m ≡ degree b → AtOrAbove ord (l ⋅ power n (n - 1) k) m
     above e =
         subst (AtOrAbove ord (l ⋅ power n (n - 1) k)) q.0
         (subst (λ (v : List ℕ). AtOrAbove ord v (over m l ⋅ l)) (times_comm (power n (n - 1) k) l)
         (times_up ord (power n (n - 1) k) (over m l) l (long_power n (n - 1) k ∙ sym (q.1 ∙ long)) (least n h.some (q.1 ∙ long) (let f = q.2 in omega arith))))
-
-    least : (n : ℕ) → 0 < n → length (over m l) ≡ n → degree (over m l) ≡ k → AtOrAbove ord (power n (n - 1) k) (over m l)
-    least zero some long d = absurd (omega arith)
-    least (suc n) some long d = subst (λ (v : List ℕ). AtOrAbove ord v (over m l)) (sym (last_is (suc n) k some)) (least_power ord n k (over m l) long d)
 
     pick : (degree m ≡ degree b) ⊎ (degree m < degree b) → degree m < degree b
     pick (inl e) = absurd (at_back ord m b (l ⋅ power n (n - 1) k) at h.above (above e))
@@ -204,3 +212,32 @@ next_multiples ord n k l b m ll long db h d at = pick (grind (arith, lower_degre
     pick : (degree m ≡ degree l + k) ⊎ (degree m < degree l + k) → AtOrAbove ord m (l ⋅ power n 0 k)
     pick (inl e) = here e
     pick (inr less) = inr ((order_facts ord).degree_first m (l ⋅ power n 0 k) (let f = degree_times l (power n 0 k) in let p = power_degree n k h.some in omega arith))
+
+-- ---- as monomials compare
+pub less_below : (ord : Order) (a b : List ℕ) → length a ≡ length b → compare ord a b ≡ Less → Below ord a b
+less_below ord a b l e = pick (below_total ord a b l)
+  where
+    pick : Three (Below ord a b) (a ≡ b) (Below ord b a) → Below ord a b
+    pick (is_less h) = h
+    pick (is_equal q) = absurd (true≢false (sym (ap is_lt e) ∙ ap is_lt (subst (λ (c : List ℕ). compare ord a c ≡ compare ord a a) q refl ∙ compare_same ord a)))
+    pick (is_greater h) = absurd (true≢false (sym (ap is_lt e) ∙ ap is_lt (compare_greater ord a b h)))
+
+-- what holds of a value and of the default holds of the one that is taken
+pub either : {A : Type 0} (P : A → Type 0) (o : Option A) (d r : A) → r ≡ unwrap_or o d → IfSome o P → P d → P r
+either P None d r e some none = subst P (sym e) none
+either P (Some x) d r e some none = subst P (sym e) some
+
+pub when_some : {A : Type 0} (P Q : A → Type 0) (o : Option A) → ((x : A) → P x → Q x) → IfSome o P → IfSome o Q
+when_some P Q None f h = tt
+when_some P Q (Some x) f h = f x h
+
+-- ---- a power, as an array spells it
+take_zeros : (n m : ℕ) → n ≤ m → take n (zeros m) ≡ zeros n
+unfolding zeros
+take_zeros zero m l = refl
+take_zeros (suc n) zero l = absurd (omega arith)
+take_zeros (suc n) (suc m) l = ap (λ (v : List ℕ). 0 ∷ v) (take_zeros n m (omega arith))
+
+pub spelled_power : (n i k : ℕ) → i < n → n ≤ 15 → take n (set (0 ∷ 0 ∷ 0 ∷ 0 ∷ 0 ∷ 0 ∷ 0 ∷ 0 ∷ 0 ∷ 0 ∷ 0 ∷ 0 ∷ 0 ∷ 0 ∷ 0 ∷ []) i k) ≡ power n i k
+unfolding zeros
+spelled_power n i k b l = take-set-lt n (zeros 15) i k b ∙ ap (λ (v : List ℕ). set v i k) (take_zeros n 15 l)

@@ -10,33 +10,37 @@ use Rattle.sdmp_laws.specs.Division.{Division, AllAtOrBelow}
 use Rattle.sdmp_laws.proofs.OrderLemmas.{order_facts, alike_not, alike_self}
 use Rattle.sdmp_laws.proofs.LongLemmas.{over_times}
 use Rattle.whole_laws.specs.Wholes.{head_terms, clear_at}
-use Rattle.divide_wholes.specs.Row.{RowNote, RowTerm, RowMayFollow, row_terms}
+use Rattle.divide_wholes.specs.Row.{RowNote, RowTerm, RowCarry, row_terms}
 use Rattle.divide_wholes.specs.Wholes.{DivideState, processed, found, kept}
 use Rattle.divide_wholes.proofs.RowLemmas.{row_terms-append}
 use Rattle.canonical_terms.specs.View.{term_of, sum_of}
 use Rattle.canonical_terms.specs.declared.term.TermOf.{TermOf}
 use Rattle.dividing_rounds.specs.Found.{read_coef, term_at, Fits, IsNext, IsQuotientAt, IsRestAt}
-use Rattle.dividing_rounds.specs.Runs.{DivideRun, RunWhole, run_zero, run_rest, run_found}
+use Rattle.dividing_rounds.specs.Runs.{DivideRun, RunWhole, run_zero, run_rest, run_found, run_over}
 use Rattle.dividing_rounds.specs.Stalls.{GoesOn}
 use Rattle.ring_heads.specs.declared.head.HeadOf.{HeadOf}
 use Rattle.ring_heads.specs.Heads.{plain_heads, HeadBelongs, TopFits, size_at}
-use Rattle.quotient_row.specs.Ends.{published}
+use Rattle.quotient_row.specs.Ends.{published, IsWriterOf, name_of}
+use Rattle.quotient_row.specs.Legal.{Legal, Fits as RowFits}
 use Rattle.quotient_row.specs.Spelling.{notes_of as row_notes_of, note_of as row_note_of}
+use Rattle.quotient_row.specs.declared.row.Row.{Row}
 use Rattle.quotient_row.specs.declared.row.RowWriter.{RowWriter}
 use Rattle.quotient_row.specs.declared.note.RowNoteOf.TheVariants as row_note
 use Rattle.term_ring.specs.Names.{reader_name}
-use Rattle.divide_merge.specs.Names.{RowIdentity, writer_row, IsPublishing, first_division, IsFit}
-use Rattle.divide_merge.specs.Verdicts.{NoneStuck}
-use Rattle.divide_merge.specs.Merges.{DivideView, free_places}
+use Rattle.divide_merge.specs.Names.{RowIdentity, row_identity, writer_row, IsPublishing, first_division, IsFit}
+use Rattle.divide_merge.specs.Verdicts.{NoneStuck, IsVerdict, IsFinal}
+use Rattle.divide_merge.specs.Merges.{DivideView, IsSound, verdict_of, free_places}
 use Rattle.divide_merge.specs.Reading.{IsReadNext, BeginsAt}
-use Rattle.divide_merge.specs.Steps.{PassesOver, FindsTerm, KeepsTerm}
+use Rattle.divide_merge.specs.Steps.{PassesOver, FindsTerm, KeepsTerm, EndsWith}
 use Rattle.divide_merge.specs.Inside.{Held, vector_of, answer_of, NotEnded, taken_notes, published_notes, divide_state, divide_run, divide_view, IsMadeFor, HasWorkers, HasTerms, IsDivideMerge}
+use Rattle.divide_merge.specs.declared.answer.DivideAdvanceOf.{DivideAdvanceOf}
 use Rattle.divide_merge.specs.declared.mark.Next.{Next}
 use Rattle.dividing_rounds.proofs.LogLemmas.{counts_fit}
-use Rattle.dividing_rounds.proofs.RunLemmas.{run_zero_law, run_rest_law, run_found_law}
+use Rattle.dividing_rounds.proofs.RunLemmas.{run_zero_law, run_rest_law, run_found_law, run_row_law}
 use Rattle.dividing_rounds.proofs.StallLemmas.{nobody_stuck}
-use Rattle.divide_merge.proofs.Sound.{workload_low}
+use Rattle.divide_merge.proofs.Sound.{workload_low, is_sound}
 use Rattle.divide_merge.proofs.Overflow.{read_fits}
+use Rattle.divide_merge.proofs.Publishing.{row_of, legal_after}
 use Rattle.divide_merge.proofs.OneAnswer.{at_has, at_both}
 
 -- ---- the unread terms after those at x
@@ -294,10 +298,6 @@ module _ {X M E : Type 0} (vector : M → List ℕ) (value : E → ℤ) (belongs
         unfolding run_found
         came_run u q = λ i. record { state = came_state u q i; notes = notes_are u i; fronts_count = h.fronts; processed_count = h.processed + 1; over = is_some (answer_of vector value h.over) }
 
-        -- the term may be published
-        pub may_follow : IsQuotientAt (divide_state vector value h) (vector x.mono) (term_of vector value t) → RowMayFollow d (writer_row h.writer).name.start (published_notes vector value h.writer) (RowTerm (term_of vector value t))
-        may_follow q = (run_found_law (divide_run vector value h) (vector x.mono) (term_of vector value t) fit.accepted r.kept.whole next_is q).0
-
         pub find_kept : Published → s + 1 ≡ h.spare → belongs p t.coef → (p ≡ 0 → m ≡ norm (sum_of vector value h.found ++ term_of vector value t ∷ [])) → IsQuotientAt (divide_state vector value h) (vector x.mono) (term_of vector value t)
             → IsDivideMerge vector value belongs ord n lim p quotient_room rest_room (record h { heads = hs; seen = k; last = Some x.mono; processed = h.processed + 1; found = h.found ++ t ∷ []; norm = m; spare = s; writer = w; front = Some x.mono })
         find_kept u less mine norms q =
@@ -328,3 +328,148 @@ module _ {X M E : Type 0} (vector : M → List ℕ) (value : E → ℤ) (belongs
         pub find_view : Published → s + 1 ≡ h.spare → IsQuotientAt (divide_state vector value h) (vector x.mono) (term_of vector value t)
             → FindsTerm (divide_view vector value h) (divide_view vector value (record h { heads = hs; seen = k; last = Some x.mono; processed = h.processed + 1; found = h.found ++ t ∷ []; norm = m; spare = s; writer = w; front = Some x.mono })) (vector x.mono) (term_of vector value t)
         find_view u less q = record { steady = record { rings = refl; row = u.row; tails = refl; looks = refl }; run = came_run u q; answer = refl; spare = less }
+
+-- ---- each step, as contracts say it
+module _ {X M E : Type 0} (vector : M → List ℕ) (value : E → ℤ) (belongs : ℕ → E → Type 0) (ord : Order) (n lim p quotient_room rest_room : ℕ) where
+  -- the view is that of the fields, and what is read next is processed
+  pub record Given (h : Held X M E) (x : Next M) (v : DivideView) : Type 0 where
+    pub kept : IsDivideMerge vector value belongs ord n lim p quotient_room rest_room h
+    pub view : divide_view vector value h ≡ v
+    pub going : v.answer ≡ None
+    pub next : IsReadNext vector v.run.state x
+    pub heard : NoneStuck v.run.state (Some (vector x.mono))
+
+  pub ready : (h : Held X M E) (x : Next M) (v : DivideView) → Given h x v → Ready vector value belongs ord n lim p quotient_room rest_room h x
+  ready h x v g = record {
+    kept = g.kept;
+    going = ap (λ (u : DivideView). u.answer) g.view ∙ g.going;
+    next = subst (λ (u : DivideView). IsReadNext vector u.run.state x) (sym g.view) g.next;
+    heard = subst (λ (u : DivideView). NoneStuck u.run.state (Some (vector x.mono))) (sym g.view) g.heard;
+  }
+
+  -- the coefficient is one of the ring's
+  its_own : (h : Held X M E) (x : Next M) (v : DivideView) → Given h x v → (t : TermOf M E) → belongs v.run.state.division.p t.coef → belongs p t.coef
+  its_own h x v g t = subst (λ (i : ℕ). belongs i t.coef) (ap (λ (u : DivideView). u.run.state.division.p) (sym g.view) ∙ g.kept.made_for.modulus)
+
+  -- ---- a quotient term may be published
+  module _ (h : Held X M E) (x : Next M) (v : DivideView) (g : Given h x v) (row : Row X M E) (same : v.row ≡ row_identity row) (t : TermOf M E) where
+    pub own_row : writer_row h.writer ≡ row_identity row
+    own_row = ap (λ (u : DivideView). u.row) g.view ∙ same
+
+    pub term_fits : belongs v.run.state.division.p t.coef → RowFits belongs (name_of row) (row_note.Term t)
+    term_fits mine = subst (λ (i : ℕ). belongs i t.coef) (ap (λ (u : DivideView). u.run.state.division.p) (sym g.view) ∙ ap (λ (d : Division). d.p) (sym g.kept.made_for.row_division) ∙ ap (λ (i : RowIdentity). i.name.division.p) own_row) mine
+
+    carried : IsQuotientAt (divide_state vector value h) (vector x.mono) (term_of vector value t) → RowCarry (first_division (map reader_name h.readers)) (writer_row h.writer).name.start (published_notes vector value h.writer ++ RowTerm (term_of vector value t) ∷ [])
+    unfolding run_found found processed
+    carried q =
+        let r = ready h x v g in
+        (run_found_law (divide_run vector value h) (vector x.mono) (term_of vector value t) g.kept.made_for.fit.accepted g.kept.whole (next_is vector value belongs ord n lim p quotient_room rest_room h x r) q).1.row.carried
+
+    pub term_legal : IsQuotientAt v.run.state (vector x.mono) (term_of vector value t) → Legal vector value (name_of row) (published h.writer ++ row_note.Term t ∷ [])
+    term_legal q = legal_after row vector value h own_row (first_division (map reader_name h.readers)) (row_note.Term t) g.kept.made_for.row_division (carried (subst (λ (u : DivideView). IsQuotientAt u.run.state (vector x.mono) (term_of vector value t)) (sym g.view) q))
+
+  module _ (h : Held X M E) (x : Next M) (v : DivideView) (g : Given h x v) (hs : List (HeadOf M E)) (k : ℕ) (c : Cleared vector value belongs ord n lim p quotient_room rest_room h x hs k) where
+    -- where the coefficient is zero
+    pub record Passed : Type 0 where
+      pub kept : IsDivideMerge vector value belongs ord n lim p quotient_room rest_room (record h { heads = hs; seen = k; last = Some x.mono; processed = h.processed + 1 })
+      pub sound : IsSound lim (divide_view vector value (record h { heads = hs; seen = k; last = Some x.mono; processed = h.processed + 1 }))
+      pub passes : PassesOver v (divide_view vector value (record h { heads = hs; seen = k; last = Some x.mono; processed = h.processed + 1 })) (vector x.mono)
+
+    pub passed_over : read_coef v.run.state (vector x.mono) ≡ pos 0 → Passed
+    passed_over zero =
+        let r = ready h x v g in
+        let kept = pass_kept vector value belongs ord n lim p quotient_room rest_room h x r hs k c (ap (λ (u : DivideView). read_coef u.run.state (vector x.mono)) g.view ∙ zero) in record {
+          kept = kept;
+          sound = is_sound vector value belongs ord n lim p quotient_room rest_room (record h { heads = hs; seen = k; last = Some x.mono; processed = h.processed + 1 }) kept;
+          passes = subst (λ (u : DivideView). PassesOver u (divide_view vector value (record h { heads = hs; seen = k; last = Some x.mono; processed = h.processed + 1 })) (vector x.mono)) g.view (pass_view vector value belongs ord n lim p quotient_room rest_room h x r hs k c);
+        }
+
+    -- where the term goes to the remainder, which has as much room as it had
+    module _ (t : TermOf M E) (s : ℕ) (rest : List (TermOf M E)) (room : ℕ) where
+      pub record Kept : Type 0 where
+        pub kept : IsDivideMerge vector value belongs ord n lim p quotient_room room (record h { heads = hs; seen = k; last = Some x.mono; processed = h.processed + 1; rest = rest; spare = s })
+        pub sound : IsSound lim (divide_view vector value (record h { heads = hs; seen = k; last = Some x.mono; processed = h.processed + 1; rest = rest; spare = s }))
+        pub keeps : KeepsTerm v (divide_view vector value (record h { heads = hs; seen = k; last = Some x.mono; processed = h.processed + 1; rest = rest; spare = s })) (vector x.mono)
+
+      pub kept_there : s + 1 ≡ h.spare → rest ≡ h.rest ++ t ∷ [] → room ≡ rest_room → belongs v.run.state.division.p t.coef → t.mono ≡ x.mono → value t.coef ≡ read_coef v.run.state (vector x.mono) → IsRestAt v.run.state (vector x.mono) → Kept
+      kept_there less more same mine mono coef at =
+          let r = ready h x v g in
+          let is : term_of vector value t ≡ record { monomial = vector x.mono; coefficient = read_coef (divide_state vector value h) (vector x.mono) } = λ i. record { monomial = vector (mono i); coefficient = (coef ∙ ap (λ (u : DivideView). read_coef u.run.state (vector x.mono)) (sym g.view)) i } in
+          let kept =
+              subst (λ (m : ℕ). IsDivideMerge vector value belongs ord n lim p quotient_room m (record h { heads = hs; seen = k; last = Some x.mono; processed = h.processed + 1; rest = rest; spare = s })) (sym same)
+              (subst (λ (L : List (TermOf M E)). IsDivideMerge vector value belongs ord n lim p quotient_room rest_room (record h { heads = hs; seen = k; last = Some x.mono; processed = h.processed + 1; rest = L; spare = s })) (sym more)
+              (keep_kept vector value belongs ord n lim p quotient_room rest_room h x r hs k c t s less (its_own h x v g t mine) is (subst (λ (u : DivideView). IsRestAt u.run.state (vector x.mono)) (sym g.view) at))) in record {
+            kept = kept;
+            sound = is_sound vector value belongs ord n lim p quotient_room room (record h { heads = hs; seen = k; last = Some x.mono; processed = h.processed + 1; rest = rest; spare = s }) kept;
+            keeps =
+                subst (λ (L : List (TermOf M E)). KeepsTerm v (divide_view vector value (record h { heads = hs; seen = k; last = Some x.mono; processed = h.processed + 1; rest = L; spare = s })) (vector x.mono)) (sym more)
+                (subst (λ (u : DivideView). KeepsTerm u (divide_view vector value (record h { heads = hs; seen = k; last = Some x.mono; processed = h.processed + 1; rest = h.rest ++ t ∷ []; spare = s })) (vector x.mono)) g.view
+                (keep_view vector value belongs ord n lim p quotient_room rest_room h x r hs k c t s less is));
+          }
+
+    -- where a quotient term was published by the writer w, and the quotient has as much room as it had
+    module _ (t : TermOf M E) (m s : ℕ) (w : RowWriter X M E) (row : Row X M E) (terms : List (TermOf M E)) (room : ℕ) where
+      pub record Found : Type 0 where
+        pub kept : IsDivideMerge vector value belongs ord n lim p room rest_room (record h { heads = hs; seen = k; last = Some x.mono; processed = h.processed + 1; found = terms; norm = m; spare = s; writer = w; front = Some x.mono })
+        pub sound : IsSound lim (divide_view vector value (record h { heads = hs; seen = k; last = Some x.mono; processed = h.processed + 1; found = terms; norm = m; spare = s; writer = w; front = Some x.mono }))
+        pub finds : FindsTerm v (divide_view vector value (record h { heads = hs; seen = k; last = Some x.mono; processed = h.processed + 1; found = terms; norm = m; spare = s; writer = w; front = Some x.mono })) (vector x.mono) (term_of vector value t)
+
+      -- what was published, and where
+      pub record Sent : Type 0 where
+        pub same : v.row ≡ row_identity row
+        pub of : IsWriterOf row w
+        pub notes : published w ≡ published h.writer ++ row_note.Term t ∷ []
+        pub place : 0 < free_places v
+
+      pub found_there : Sent → s + 1 ≡ h.spare → terms ≡ h.found ++ t ∷ [] → room ≡ quotient_room → belongs v.run.state.division.p t.coef
+          → (v.run.state.division.p ≡ 0 → m ≡ norm (v.run.state.q ++ term_of vector value t ∷ [])) → IsQuotientAt v.run.state (vector x.mono) (term_of vector value t) → Found
+      found_there sent less more wide mine norms at =
+          let r = ready h x v g in
+          let u = record {
+            row = row_of row w sent.of ∙ sym (own_row h x v g row sent.same t);
+            notes = sent.notes;
+            publishing = sent.of.0;
+            place = subst (λ (u : DivideView). 0 < free_places u) (sym g.view) sent.place;
+          } in
+          let q = subst (λ (u : DivideView). IsQuotientAt u.run.state (vector x.mono) (term_of vector value t)) (sym g.view) at in
+          let sum = subst (λ (u : DivideView). u.run.state.division.p ≡ 0 → m ≡ norm (u.run.state.q ++ term_of vector value t ∷ [])) (sym g.view) norms in
+          let kept =
+              subst (λ (i : ℕ). IsDivideMerge vector value belongs ord n lim p i rest_room (record h { heads = hs; seen = k; last = Some x.mono; processed = h.processed + 1; found = terms; norm = m; spare = s; writer = w; front = Some x.mono })) (sym wide)
+              (subst (λ (L : List (TermOf M E)). IsDivideMerge vector value belongs ord n lim p quotient_room rest_room (record h { heads = hs; seen = k; last = Some x.mono; processed = h.processed + 1; found = L; norm = m; spare = s; writer = w; front = Some x.mono })) (sym more)
+              (find_kept vector value belongs ord n lim p quotient_room rest_room h x r hs k c t m s w u less (its_own h x v g t mine) (λ z. sum (g.kept.made_for.modulus ∙ z)) q)) in record {
+            kept = kept;
+            sound = is_sound vector value belongs ord n lim p room rest_room (record h { heads = hs; seen = k; last = Some x.mono; processed = h.processed + 1; found = terms; norm = m; spare = s; writer = w; front = Some x.mono }) kept;
+            finds =
+                subst (λ (L : List (TermOf M E)). FindsTerm v (divide_view vector value (record h { heads = hs; seen = k; last = Some x.mono; processed = h.processed + 1; found = L; norm = m; spare = s; writer = w; front = Some x.mono })) (vector x.mono) (term_of vector value t)) (sym more)
+                (subst (λ (u : DivideView). FindsTerm u (divide_view vector value (record h { heads = hs; seen = k; last = Some x.mono; processed = h.processed + 1; found = h.found ++ t ∷ []; norm = m; spare = s; writer = w; front = Some x.mono })) (vector x.mono) (term_of vector value t)) g.view
+                (find_view vector value belongs ord n lim p quotient_room rest_room h x r hs k c t m s w u less q));
+          }
+
+  -- ---- the merge is over
+  module _ (h : Held X M E) (v : DivideView) (a : DivideAdvanceOf M E) where
+    pub record Over : Type 0 where
+      pub kept : IsDivideMerge vector value belongs ord n lim p quotient_room rest_room (record h { over = Some a })
+      pub sound : IsSound lim (divide_view vector value (record h { over = Some a }))
+      pub ends : EndsWith v (divide_view vector value (record h { over = Some a })) (verdict_of vector value a)
+
+    over_run : divide_run vector value (record h { over = Some a }) ≡ run_over (divide_run vector value h)
+    unfolding run_over
+    over_run = refl
+
+    pub over_at : IsDivideMerge vector value belongs ord n lim p quotient_room rest_room h → divide_view vector value h ≡ v → IsFinal (verdict_of vector value a) → IsVerdict v.run.state (free_places v) v.spare (verdict_of vector value a) → Over
+    over_at kept view last cause =
+        let ends = record {
+          made_for = kept.made_for;
+          workers = kept.workers;
+          terms = kept.terms;
+          publishing = kept.publishing;
+          row_room = kept.row_room;
+          whole = subst RunWhole (sym over_run) (run_row_law (divide_run vector value h) kept.whole).1;
+          begun = kept.begun;
+          cause = (last, subst (λ (u : DivideView). IsVerdict u.run.state (free_places u) u.spare (verdict_of vector value a)) (sym view) cause);
+          counted = kept.counted;
+        } in record {
+          kept = ends;
+          sound = is_sound vector value belongs ord n lim p quotient_room rest_room (record h { over = Some a }) ends;
+          ends = subst (λ (u : DivideView). EndsWith u (divide_view vector value (record h { over = Some a })) (verdict_of vector value a)) view (record { steady = record { rings = refl; row = refl; tails = refl; looks = refl }; run = over_run; answer = refl; spare = refl });
+        }
