@@ -173,7 +173,7 @@ module _ {X M E : Type 0} (vector : M → List ℕ) (value : E → ℤ) (belongs
 
         pub front_there : IsWriterOf row w → published w ≡ published h.writer ++ row_note.Front y ∷ [] → 0 < free_places v → Done
         front_there of notes place =
-            let u = record {
+            let u : Published vector value belongs ord n lim p quotient_room rest_room h b y fronted_at w = record {
               row = row_of row w of ∙ sym own_row;
               notes = notes;
               publishing = of.0;

@@ -51,17 +51,17 @@ without_all ord x (t ∷ A) h =
     ap (λ (b : Bool). cond b (without x A) (t ∷ without x A)) (alike_not t.monomial x (λ e. (order_facts ord).irreflexive x (subst (λ (v : List ℕ). Below ord v x) e h.0)))
     ∙ ap (λ (L : List Term). t ∷ L) (without_all ord x A h.1)
 
-drop_next : (n : ℕ) (L : List Term) (t : Term) (rest : List Term) → drop n L ≡ t ∷ rest → drop (n + 1) L ≡ rest
-drop_next n [] t rest e = absurd (not_cons (t) rest (sym e ∙ drop_nothing n))
-  where
-    not_cons : (t : Term) (rest : List Term) → t ∷ rest ≡ [] → ⊥
-    not_cons t rest e = true≢false (ap (λ (A : List Term). elim A as (λ _. Bool) [ [] ↦ false | u ∷ B ↦ true ]) e)
+not_cons : (t : Term) (rest : List Term) → t ∷ rest ≡ [] → ⊥
+not_cons t rest e = true≢false (ap (λ (A : List Term). elim A as (λ _. Bool) [ [] ↦ false | u ∷ B ↦ true ]) e)
 
-    drop_nothing : (n : ℕ) → drop n [] ≡ []
-    drop_nothing zero = refl
-    drop_nothing (suc n) = refl
+drop_nothing : (n : ℕ) → drop {A = Term} n [] ≡ []
+drop_nothing zero = refl
+drop_nothing (suc n) = refl
+
+drop_next : (n : ℕ) (L : List Term) (t : Term) (rest : List Term) → drop n L ≡ t ∷ rest → drop (n + 1) L ≡ rest
+drop_next n [] t rest e = absurd (not_cons t rest (sym e ∙ drop_nothing n))
 drop_next zero (u ∷ L) t rest e = ap (λ (A : List Term). drop 1 A) e
-drop_next (suc n) (u ∷ L) t rest e = drop_next n L t rest e
+drop_next (suc n) (u ∷ L) t rest e = ap (λ (i : ℕ). drop i (u ∷ L)) (let f : suc n + 1 ≡ suc (n + 1) = omega arith in f) ∙ drop_next n L t rest e
 
 decreasing_drop : (ord : Order) (n : ℕ) (L : List Term) → Decreasing ord L → Decreasing ord (drop n L)
 unfolding Decreasing
@@ -71,8 +71,8 @@ decreasing_drop ord (suc n) (t ∷ L) d = decreasing_drop ord n L d.1
 
 pub unread_after : (ord : Order) (n : ℕ) (L : List Term) (x : List ℕ) (b : Bool) → Decreasing ord L → (b ≡ true → BeginsAt x (drop n L)) → (b ≡ false → AllBelow ord x (drop n L)) → drop (cond b (n + 1) n) L ≡ without x (drop n L)
 unfolding Decreasing without
-unread_after ord n L x true d yes no =
-    let u = yes refl in
+unread_after ord n L x true d at below =
+    let u = at refl in
     let k : Decreasing ord (u.0 ∷ u.1) = subst (Decreasing ord) u.2 (decreasing_drop ord n L d) in
     drop_next n L u.0 u.1 u.2
     ∙ sym (ap (without x) u.2 ∙ ap (λ (c : Bool). cond c (without x u.1) (u.0 ∷ without x u.1)) (alike_same_at u.0.monomial x u.3)
@@ -80,7 +80,7 @@ unread_after ord n L x true d yes no =
   where
     alike_same_at : (a b : List ℕ) → a ≡ b → alike a b ≡ true
     alike_same_at a b e = subst (λ (v : List ℕ). alike a v ≡ true) e (alike_self a)
-unread_after ord n L x false d yes no = sym (without_all ord x (drop n L) (no refl))
+unread_after ord n L x false d at below = sym (without_all ord x (drop n L) (below refl))
 
 -- it is read where an unread term stands there
 pub read_below : (n : ℕ) (L : List Term) (x : List ℕ) → BeginsAt x (drop n L) → n < length L
@@ -128,12 +128,12 @@ module _ {X M E : Type 0} (vector : M → List ℕ) (value : E → ℤ) (belongs
 
     -- the sum of the heads there has room
     pub top_fits : p ≡ 0 → x.headed ≡ true → TopFits ord (plain_heads vector value h.heads)
-    top_fits zero headed y top =
+    top_fits over headed y top =
         let mine = r.next.headed headed in
         let o = r.kept.made_for.ordered in
         let same : y ≡ vector x.mono = at_both d.ord y (vector x.mono) (at_has d.ord y (vector x.mono) (head_terms (plain_heads vector value h.heads)) top.there mine.greatest)
         (at_has d.ord (vector x.mono) y (head_terms (plain_heads vector value h.heads)) mine.there (subst (λ (i : Order). AllAtOrBelow i y (head_terms (plain_heads vector value h.heads))) (sym o) top.greatest)) in
-        let f = read_fits (divide_state vector value h) (vector x.mono) fit.accepted r.kept.whole.whole next_is.candidate (r.kept.made_for.modulus ∙ zero) in
+        let f = read_fits (divide_state vector value h) (vector x.mono) fit.accepted r.kept.whole.whole next_is.candidate (r.kept.made_for.modulus ∙ over) in
         let e = ap (λ (v : List ℕ). size_at v (head_terms (plain_heads vector value h.heads))) same in
         omega arith
 
@@ -196,13 +196,13 @@ module _ {X M E : Type 0} (vector : M → List ℕ) (value : E → ℤ) (belongs
       passed_run = ap (λ (s : DivideState). record (divide_run vector value h) { state = s; processed_count = h.processed + 1 }) passed_state
 
       pub pass_kept : read_coef (divide_state vector value h) (vector x.mono) ≡ pos 0 → IsDivideMerge vector value belongs ord n lim p quotient_room rest_room (record h { heads = hs; seen = k; last = Some x.mono; processed = h.processed + 1 })
-      pass_kept zero = record {
+      pass_kept gone = record {
         made_for = r.kept.made_for;
         workers = workers_after;
         terms = r.kept.terms;
         publishing = r.kept.publishing;
         row_room = r.kept.row_room;
-        whole = subst RunWhole (sym passed_run) (run_zero_law (divide_run vector value h) (vector x.mono) fit.accepted r.kept.whole next_is zero);
+        whole = subst RunWhole (sym passed_run) (run_zero_law (divide_run vector value h) (vector x.mono) fit.accepted r.kept.whole next_is gone);
         begun = r.kept.begun;
         cause = MatchOption-from_none (answer_of vector value h.over) _ r.going;
         counted = r.kept.counted;
@@ -376,9 +376,9 @@ module _ {X M E : Type 0} (vector : M → List ℕ) (value : E → ℤ) (belongs
       pub passes : PassesOver v (divide_view vector value (record h { heads = hs; seen = k; last = Some x.mono; processed = h.processed + 1 })) (vector x.mono)
 
     pub passed_over : read_coef v.run.state (vector x.mono) ≡ pos 0 → Passed
-    passed_over zero =
+    passed_over gone =
         let r = ready h x v g in
-        let kept = pass_kept vector value belongs ord n lim p quotient_room rest_room h x r hs k c (ap (λ (u : DivideView). read_coef u.run.state (vector x.mono)) g.view ∙ zero) in record {
+        let kept = pass_kept vector value belongs ord n lim p quotient_room rest_room h x r hs k c (ap (λ (u : DivideView). read_coef u.run.state (vector x.mono)) g.view ∙ gone) in record {
           kept = kept;
           sound = is_sound vector value belongs ord n lim p quotient_room rest_room (record h { heads = hs; seen = k; last = Some x.mono; processed = h.processed + 1 }) kept;
           passes = subst (λ (u : DivideView). PassesOver u (divide_view vector value (record h { heads = hs; seen = k; last = Some x.mono; processed = h.processed + 1 })) (vector x.mono)) g.view (pass_view vector value belongs ord n lim p quotient_room rest_room h x r hs k c);
@@ -425,7 +425,7 @@ module _ {X M E : Type 0} (vector : M → List ℕ) (value : E → ℤ) (belongs
           → (v.run.state.division.p ≡ 0 → m ≡ norm (v.run.state.q ++ term_of vector value t ∷ [])) → IsQuotientAt v.run.state (vector x.mono) (term_of vector value t) → Found
       found_there sent less more wide mine norms at =
           let r = ready h x v g in
-          let u = record {
+          let u : Published vector value belongs ord n lim p quotient_room rest_room h x r hs k c t m s w = record {
             row = row_of row w sent.of ∙ sym (own_row h x v g row sent.same t);
             notes = sent.notes;
             publishing = sent.of.0;
@@ -458,7 +458,7 @@ module _ {X M E : Type 0} (vector : M → List ℕ) (value : E → ℤ) (belongs
 
     pub over_at : IsDivideMerge vector value belongs ord n lim p quotient_room rest_room h → divide_view vector value h ≡ v → IsFinal (verdict_of vector value a) → IsVerdict v.run.state (free_places v) v.spare (verdict_of vector value a) → Over
     over_at kept view last cause =
-        let ends = record {
+        let ends : IsDivideMerge vector value belongs ord n lim p quotient_room rest_room (record h { over = Some a }) = record {
           made_for = kept.made_for;
           workers = kept.workers;
           terms = kept.terms;

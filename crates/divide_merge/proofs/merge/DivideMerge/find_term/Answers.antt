@@ -14,7 +14,7 @@ pub publish-requires-clause-legal : goal.publish-requires-clause-legal
 publish-requires-clause-legal g c κs within = term_legal g.M.Monomial.vector g.R.CoeffRing.value g.R.CoeffRing.belongs _ _ g.M.Monomial.LIM _ _ _ _ c.args.next c.args.self.now (record { kept = c.self.invariant; view = c.self.view_is; going = c.requires.going; next = c.requires.next; heard = c.requires.heard }) c.args.row.now c.requires.row c.args.term c.requires.found
 
 pub unreachable-requires : goal.unreachable-requires
-unreachable-requires g c = ?
+unreachable-requires g c = not_full c.args.row.now g.M.Monomial.vector g.R.CoeffRing.value _ (own_row g.M.Monomial.vector g.R.CoeffRing.value g.R.CoeffRing.belongs _ _ g.M.Monomial.LIM _ _ _ _ c.args.next c.args.self.now (record { kept = c.self.invariant; view = c.self.view_is; going = c.requires.going; next = c.requires.next; heard = c.requires.heard }) c.args.row.now c.requires.row c.args.term) c.args.self.now c.self.view_is c.requires.place (refused c.publish.result (sym c.is_err.ensures.value ∙ c.if-is_err.true) c.publish.ensures.full)
 
 pub clear_heads-requires-clause-bound : goal.clear_heads-requires-clause-bound
 clear_heads-requires-clause-bound g c κs within = top_fits g.M.Monomial.vector g.R.CoeffRing.value g.R.CoeffRing.belongs _ _ g.M.Monomial.LIM _ _ _ _ c.args.next (ready g.M.Monomial.vector g.R.CoeffRing.value g.R.CoeffRing.belongs _ _ g.M.Monomial.LIM _ _ _ _ c.args.next c.args.self.now (record { kept = c.self.invariant; view = c.self.view_is; going = c.requires.going; next = c.requires.next; heard = c.requires.heard }))
@@ -30,7 +30,7 @@ invariant_of-self g c =
     (found_there g.M.Monomial.vector g.R.CoeffRing.value g.R.CoeffRing.belongs _ _ g.M.Monomial.LIM _ _ _ _ c.args.next c.args.self.now (record { kept = c.self.invariant; view = c.self.view_is; going = c.requires.going; next = c.requires.next; heard = c.requires.heard }) c.clear_heads.new.heads c.read_after-self-inside.result
     (record { heads = e.heads; long = e.long; belongs_all = e.belongs; not_ended = e.going; seen = c.read_after-self-inside.ensures })
     c.args.term c.args.norm (c.self.inside.spare - 1) c.publish.new.self c.args.row.now c.push_reserved.new.self.items _
-    (record { same = c.requires.row; of = c.publish.ensures.of; notes = given c.publish.result ? c.publish.ensures.published; place = c.requires.place })
+    (record { same = c.requires.row; of = c.publish.ensures.of; notes = given c.publish.result (sym c.is_err.ensures.value ∙ c.if-is_err.false) c.publish.ensures.published; place = c.requires.place })
     (let r = subst (λ (v : DivideView). 0 < v.spare) (sym c.self.view_is) c.requires.room in omega (arith, r)) c.push_reserved.ensures.items c.push_reserved.ensures.capacity c.requires.belongs c.requires.norm c.requires.found).kept
 
 pub returns-clause-sound : goal.returns-clause-sound
@@ -39,7 +39,7 @@ returns-clause-sound g c =
     (found_there g.M.Monomial.vector g.R.CoeffRing.value g.R.CoeffRing.belongs _ _ g.M.Monomial.LIM _ _ _ _ c.args.next c.args.self.now (record { kept = c.self.invariant; view = c.self.view_is; going = c.requires.going; next = c.requires.next; heard = c.requires.heard }) c.clear_heads.new.heads c.read_after-self-inside.result
     (record { heads = e.heads; long = e.long; belongs_all = e.belongs; not_ended = e.going; seen = c.read_after-self-inside.ensures })
     c.args.term c.args.norm (c.self.inside.spare - 1) c.publish.new.self c.args.row.now c.push_reserved.new.self.items _
-    (record { same = c.requires.row; of = c.publish.ensures.of; notes = given c.publish.result ? c.publish.ensures.published; place = c.requires.place })
+    (record { same = c.requires.row; of = c.publish.ensures.of; notes = given c.publish.result (sym c.is_err.ensures.value ∙ c.if-is_err.false) c.publish.ensures.published; place = c.requires.place })
     (let r = subst (λ (v : DivideView). 0 < v.spare) (sym c.self.view_is) c.requires.room in omega (arith, r)) c.push_reserved.ensures.items c.push_reserved.ensures.capacity c.requires.belongs c.requires.norm c.requires.found).sound
 
 pub returns-clause-finds : goal.returns-clause-finds
@@ -48,5 +48,5 @@ returns-clause-finds g c =
     (found_there g.M.Monomial.vector g.R.CoeffRing.value g.R.CoeffRing.belongs _ _ g.M.Monomial.LIM _ _ _ _ c.args.next c.args.self.now (record { kept = c.self.invariant; view = c.self.view_is; going = c.requires.going; next = c.requires.next; heard = c.requires.heard }) c.clear_heads.new.heads c.read_after-self-inside.result
     (record { heads = e.heads; long = e.long; belongs_all = e.belongs; not_ended = e.going; seen = c.read_after-self-inside.ensures })
     c.args.term c.args.norm (c.self.inside.spare - 1) c.publish.new.self c.args.row.now c.push_reserved.new.self.items _
-    (record { same = c.requires.row; of = c.publish.ensures.of; notes = given c.publish.result ? c.publish.ensures.published; place = c.requires.place })
+    (record { same = c.requires.row; of = c.publish.ensures.of; notes = given c.publish.result (sym c.is_err.ensures.value ∙ c.if-is_err.false) c.publish.ensures.published; place = c.requires.place })
     (let r = subst (λ (v : DivideView). 0 < v.spare) (sym c.self.view_is) c.requires.room in omega (arith, r)) c.push_reserved.ensures.items c.push_reserved.ensures.capacity c.requires.belongs c.requires.norm c.requires.found).finds
