@@ -13,7 +13,7 @@ use Rattle.quotient_row.specs.declared.row.Row.{Row}
 use Rattle.quotient_row.specs.declared.row.RowWriter.{RowWriter}
 use Rattle.divide_merge.specs.Names.{RowIdentity, row_identity, writer_row, IsPublishing}
 use Rattle.divide_merge.specs.Merges.{DivideView, free_places}
-use Rattle.divide_merge.specs.Inside.{Held, published_notes, divide_view}
+use Rattle.divide_merge.specs.Inside.{Held, published_notes}
 
 -- what holds where a call succeeds, and where it fails
 pub given : {T E : Type 0} {P : Type 0} (r : Result T E) → is_err r ≡ false → IfOk r (λ _. P) → P
@@ -39,10 +39,9 @@ module _ {X M E : Type 0} (row : Row X M E) where
         (subst (λ (c : Division). RowCarry c (writer_row h.writer).name.start (row_notes_of vector value (published h.writer ++ x ∷ []))) (sym f)
         (subst (RowCarry d (writer_row h.writer).name.start) (sym (map-append (row_note_of vector value) (published h.writer) (x ∷ []))) carried))
 
-    -- a row with a free place isn't full
-    pub not_full : (v : DivideView) → divide_view vector value h ≡ v → 0 < free_places v → length (published h.writer) ≡ places_of row → ⊥
-    not_full v view place full =
-        let free = subst (λ (u : DivideView). 0 < free_places u) (sym view) place in
-        let places = ap (λ (i : RowIdentity). i.places) e in
-        let long = length-map (published h.writer) (row_note_of vector value) in
-        omega arith
+  -- a row with a free place isn't full
+  pub not_full : (vector : M → List ℕ) (value : E → ℤ) (w : RowWriter X M E) (v : DivideView) → v.row ≡ row_identity row → v.run.notes ≡ published_notes vector value w → 0 < free_places v → length (published w) ≡ places_of row → ⊥
+  not_full vector value w v same notes place full =
+      let places = ap (λ (i : RowIdentity). i.places) same in
+      let long = ap (λ (L : List RowNote). length L) notes ∙ length-map (published w) (row_note_of vector value) in
+      omega arith

@@ -14,7 +14,9 @@ pub publish-requires-clause-legal : goal.publish-requires-clause-legal
 publish-requires-clause-legal g c κs within = term_legal g.M.Monomial.vector g.R.CoeffRing.value g.R.CoeffRing.belongs _ _ g.M.Monomial.LIM _ _ _ _ c.args.next c.args.self.now (record { kept = c.self.invariant; view = c.self.view_is; going = c.requires.going; next = c.requires.next; heard = c.requires.heard }) c.args.row.now c.requires.row c.args.term c.requires.found
 
 pub unreachable-requires : goal.unreachable-requires
-unreachable-requires g c = not_full c.args.row.now g.M.Monomial.vector g.R.CoeffRing.value _ (own_row g.M.Monomial.vector g.R.CoeffRing.value g.R.CoeffRing.belongs _ _ g.M.Monomial.LIM _ _ _ _ c.args.next c.args.self.now (record { kept = c.self.invariant; view = c.self.view_is; going = c.requires.going; next = c.requires.next; heard = c.requires.heard }) c.args.row.now c.requires.row c.args.term) c.args.self.now c.self.view_is c.requires.place (refused c.publish.result (sym c.is_err.ensures.value ∙ c.if-is_err.true) c.publish.ensures.full)
+unreachable-requires g c =
+    not_full c.args.row.now g.M.Monomial.vector g.R.CoeffRing.value c.self.inside.writer c.args.self.now c.requires.row (ap (λ (u : DivideView). u.run.notes) (sym c.self.view_is)) c.requires.place
+    (refused c.publish.result (sym c.is_err.ensures.value ∙ c.if-is_err.true) c.publish.ensures.full)
 
 pub clear_heads-requires-clause-bound : goal.clear_heads-requires-clause-bound
 clear_heads-requires-clause-bound g c κs within = top_fits g.M.Monomial.vector g.R.CoeffRing.value g.R.CoeffRing.belongs _ _ g.M.Monomial.LIM _ _ _ _ c.args.next (ready g.M.Monomial.vector g.R.CoeffRing.value g.R.CoeffRing.belongs _ _ g.M.Monomial.LIM _ _ _ _ c.args.next c.args.self.now (record { kept = c.self.invariant; view = c.self.view_is; going = c.requires.going; next = c.requires.next; heard = c.requires.heard }))

@@ -16,7 +16,9 @@ publish-requires-clause-legal g c κs within =
     front_legal g.M.Monomial.vector g.R.CoeffRing.value g.R.CoeffRing.belongs _ _ g.M.Monomial.LIM _ _ _ _ c.args.bound c.lowered-front.result c.args.self.now (record { kept = c.self.invariant; view = c.self.view_is; going = c.requires.going; due = c.requires.due; long = vars g c.lowered-front.result; below = c.lowered-front.ensures.below; multiples = c.lowered-front.ensures.multiples }) c.args.row.now c.requires.row
 
 pub unreachable-requires : goal.unreachable-requires
-unreachable-requires g c = not_full c.args.row.now g.M.Monomial.vector g.R.CoeffRing.value _ (ap (λ (u : DivideView). u.row) c.self.view_is ∙ c.requires.row) c.args.self.now c.self.view_is c.requires.place (refused c.publish.result (sym c.is_err.ensures.value ∙ c.if-is_err.true) c.publish.ensures.full)
+unreachable-requires g c =
+    not_full c.args.row.now g.M.Monomial.vector g.R.CoeffRing.value c.self.inside.writer c.args.self.now c.requires.row (ap (λ (u : DivideView). u.run.notes) (sym c.self.view_is)) c.requires.place
+    (refused c.publish.result (sym c.is_err.ensures.value ∙ c.if-is_err.true) c.publish.ensures.full)
 
 pub overflow_add-self : goal.overflow_add-self
 overflow_add-self g c =
