@@ -139,7 +139,6 @@ module _ {X M E : Type 0} (vector : M → List ℕ) (value : E → ℤ) (belongs
 module _ {X M E : Type 0} (vector : M → List ℕ) (value : E → ℤ) (belongs : ℕ → E → Type 0) (ord : Order) (n lim p quotient_room rest_room : ℕ) where
   -- the view is that of the fields, and the front y is as low as it may be at the bound b
   pub record Given (h : Held X M E) (b y : M) (v : DivideView) : Type 0 where
-    pub kept : IsDivideMerge vector value belongs ord n lim p quotient_room rest_room h
     pub view : divide_view vector value h ≡ v
     pub going : v.answer ≡ None
     pub due : IsDue v.run.state (vector b)
@@ -147,10 +146,10 @@ module _ {X M E : Type 0} (vector : M → List ℕ) (value : E → ℤ) (belongs
     pub below : AtOrAbove ord (vector y) (vector b)
     pub multiples : (m : List ℕ) → length m ≡ n → Divides (vector h.divisor.lead.term.mono) m → AtOrAbove ord m (vector b) → AtOrAbove ord m (vector y)
 
-  module _ (h : Held X M E) (b y : M) (v : DivideView) (g : Given h b y v) where
+  module _ (h : Held X M E) (b y : M) (v : DivideView) (whole : IsDivideMerge vector value belongs ord n lim p quotient_room rest_room h) (g : Given h b y v) where
     pub fronted_at : Fronted vector value belongs ord n lim p quotient_room rest_room h b y
     fronted_at = record {
-      kept = g.kept;
+      kept = whole;
       going = ap (λ (u : DivideView). u.answer) g.view ∙ g.going;
       due = subst (λ (u : DivideView). IsDue u.run.state (vector b)) (sym g.view) g.due;
       long = g.long;
@@ -163,7 +162,7 @@ module _ {X M E : Type 0} (vector : M → List ℕ) (value : E → ℤ) (belongs
       own_row = ap (λ (u : DivideView). u.row) g.view ∙ same
 
       pub front_legal : Legal vector value (name_of row) (published h.writer ++ row_note.Front y ∷ [])
-      front_legal = legal_after row vector value h own_row (first_division (map reader_name h.readers)) (row_note.Front y) g.kept.made_for.row_division (front_carried vector value belongs ord n lim p quotient_room rest_room h b y fronted_at)
+      front_legal = legal_after row vector value h own_row (first_division (map reader_name h.readers)) (row_note.Front y) whole.made_for.row_division (front_carried vector value belongs ord n lim p quotient_room rest_room h b y fronted_at)
 
       module _ (w : RowWriter X M E) where
         pub record Done : Type 0 where

@@ -333,42 +333,41 @@ module _ {X M E : Type 0} (vector : M → List ℕ) (value : E → ℤ) (belongs
 module _ {X M E : Type 0} (vector : M → List ℕ) (value : E → ℤ) (belongs : ℕ → E → Type 0) (ord : Order) (n lim p quotient_room rest_room : ℕ) where
   -- the view is that of the fields, and what is read next is processed
   pub record Given (h : Held X M E) (x : Next M) (v : DivideView) : Type 0 where
-    pub kept : IsDivideMerge vector value belongs ord n lim p quotient_room rest_room h
     pub view : divide_view vector value h ≡ v
     pub going : v.answer ≡ None
     pub next : IsReadNext vector v.run.state x
     pub heard : NoneStuck v.run.state (Some (vector x.mono))
 
-  pub ready : (h : Held X M E) (x : Next M) (v : DivideView) → Given h x v → Ready vector value belongs ord n lim p quotient_room rest_room h x
-  ready h x v g = record {
-    kept = g.kept;
+  pub ready : (h : Held X M E) (x : Next M) (v : DivideView) → IsDivideMerge vector value belongs ord n lim p quotient_room rest_room h → Given h x v → Ready vector value belongs ord n lim p quotient_room rest_room h x
+  ready h x v whole g = record {
+    kept = whole;
     going = ap (λ (u : DivideView). u.answer) g.view ∙ g.going;
     next = subst (λ (u : DivideView). IsReadNext vector u.run.state x) (sym g.view) g.next;
     heard = subst (λ (u : DivideView). NoneStuck u.run.state (Some (vector x.mono))) (sym g.view) g.heard;
   }
 
   -- the coefficient is one of the ring's
-  its_own : (h : Held X M E) (x : Next M) (v : DivideView) → Given h x v → (t : TermOf M E) → belongs v.run.state.division.p t.coef → belongs p t.coef
-  its_own h x v g t = subst (λ (i : ℕ). belongs i t.coef) (ap (λ (u : DivideView). u.run.state.division.p) (sym g.view) ∙ g.kept.made_for.modulus)
+  its_own : (h : Held X M E) (x : Next M) (v : DivideView) → IsDivideMerge vector value belongs ord n lim p quotient_room rest_room h → Given h x v → (t : TermOf M E) → belongs v.run.state.division.p t.coef → belongs p t.coef
+  its_own h x v whole g t = subst (λ (i : ℕ). belongs i t.coef) (ap (λ (u : DivideView). u.run.state.division.p) (sym g.view) ∙ whole.made_for.modulus)
 
   -- ---- a quotient term may be published
-  module _ (h : Held X M E) (x : Next M) (v : DivideView) (g : Given h x v) (row : Row X M E) (same : v.row ≡ row_identity row) (t : TermOf M E) where
+  module _ (h : Held X M E) (x : Next M) (v : DivideView) (whole : IsDivideMerge vector value belongs ord n lim p quotient_room rest_room h) (g : Given h x v) (row : Row X M E) (same : v.row ≡ row_identity row) (t : TermOf M E) where
     pub own_row : writer_row h.writer ≡ row_identity row
     own_row = ap (λ (u : DivideView). u.row) g.view ∙ same
 
     pub term_fits : belongs v.run.state.division.p t.coef → RowFits belongs (name_of row) (row_note.Term t)
-    term_fits mine = subst (λ (i : ℕ). belongs i t.coef) (ap (λ (u : DivideView). u.run.state.division.p) (sym g.view) ∙ ap (λ (d : Division). d.p) (sym g.kept.made_for.row_division) ∙ ap (λ (i : RowIdentity). i.name.division.p) own_row) mine
+    term_fits mine = subst (λ (i : ℕ). belongs i t.coef) (ap (λ (u : DivideView). u.run.state.division.p) (sym g.view) ∙ ap (λ (d : Division). d.p) (sym whole.made_for.row_division) ∙ ap (λ (i : RowIdentity). i.name.division.p) own_row) mine
 
     carried : IsQuotientAt (divide_state vector value h) (vector x.mono) (term_of vector value t) → RowCarry (first_division (map reader_name h.readers)) (writer_row h.writer).name.start (published_notes vector value h.writer ++ RowTerm (term_of vector value t) ∷ [])
     unfolding run_found found processed
     carried q =
-        let r = ready h x v g in
-        (run_found_law (divide_run vector value h) (vector x.mono) (term_of vector value t) g.kept.made_for.fit.accepted g.kept.whole (next_is vector value belongs ord n lim p quotient_room rest_room h x r) q).1.row.carried
+        let r = ready h x v whole g in
+        (run_found_law (divide_run vector value h) (vector x.mono) (term_of vector value t) whole.made_for.fit.accepted whole.whole (next_is vector value belongs ord n lim p quotient_room rest_room h x r) q).1.row.carried
 
     pub term_legal : IsQuotientAt v.run.state (vector x.mono) (term_of vector value t) → Legal vector value (name_of row) (published h.writer ++ row_note.Term t ∷ [])
-    term_legal q = legal_after row vector value h own_row (first_division (map reader_name h.readers)) (row_note.Term t) g.kept.made_for.row_division (carried (subst (λ (u : DivideView). IsQuotientAt u.run.state (vector x.mono) (term_of vector value t)) (sym g.view) q))
+    term_legal q = legal_after row vector value h own_row (first_division (map reader_name h.readers)) (row_note.Term t) whole.made_for.row_division (carried (subst (λ (u : DivideView). IsQuotientAt u.run.state (vector x.mono) (term_of vector value t)) (sym g.view) q))
 
-  module _ (h : Held X M E) (x : Next M) (v : DivideView) (g : Given h x v) (hs : List (HeadOf M E)) (k : ℕ) (c : Cleared vector value belongs ord n lim p quotient_room rest_room h x hs k) where
+  module _ (h : Held X M E) (x : Next M) (v : DivideView) (whole : IsDivideMerge vector value belongs ord n lim p quotient_room rest_room h) (g : Given h x v) (hs : List (HeadOf M E)) (k : ℕ) (c : Cleared vector value belongs ord n lim p quotient_room rest_room h x hs k) where
     -- where the coefficient is zero
     pub record Passed : Type 0 where
       pub kept : IsDivideMerge vector value belongs ord n lim p quotient_room rest_room (record h { heads = hs; seen = k; last = Some x.mono; processed = h.processed + 1 })
@@ -377,7 +376,7 @@ module _ {X M E : Type 0} (vector : M → List ℕ) (value : E → ℤ) (belongs
 
     pub passed_over : read_coef v.run.state (vector x.mono) ≡ pos 0 → Passed
     passed_over gone =
-        let r = ready h x v g in
+        let r = ready h x v whole g in
         let kept = pass_kept vector value belongs ord n lim p quotient_room rest_room h x r hs k c (ap (λ (u : DivideView). read_coef u.run.state (vector x.mono)) g.view ∙ gone) in record {
           kept = kept;
           sound = is_sound vector value belongs ord n lim p quotient_room rest_room (record h { heads = hs; seen = k; last = Some x.mono; processed = h.processed + 1 }) kept;
@@ -393,12 +392,12 @@ module _ {X M E : Type 0} (vector : M → List ℕ) (value : E → ℤ) (belongs
 
       pub kept_there : s + 1 ≡ h.spare → rest ≡ h.rest ++ t ∷ [] → room ≡ rest_room → belongs v.run.state.division.p t.coef → t.mono ≡ x.mono → value t.coef ≡ read_coef v.run.state (vector x.mono) → IsRestAt v.run.state (vector x.mono) → Kept
       kept_there less more same mine mono coef at =
-          let r = ready h x v g in
+          let r = ready h x v whole g in
           let is : term_of vector value t ≡ record { monomial = vector x.mono; coefficient = read_coef (divide_state vector value h) (vector x.mono) } = λ i. record { monomial = vector (mono i); coefficient = (coef ∙ ap (λ (u : DivideView). read_coef u.run.state (vector x.mono)) (sym g.view)) i } in
           let kept =
               subst (λ (m : ℕ). IsDivideMerge vector value belongs ord n lim p quotient_room m (record h { heads = hs; seen = k; last = Some x.mono; processed = h.processed + 1; rest = rest; spare = s })) (sym same)
               (subst (λ (L : List (TermOf M E)). IsDivideMerge vector value belongs ord n lim p quotient_room rest_room (record h { heads = hs; seen = k; last = Some x.mono; processed = h.processed + 1; rest = L; spare = s })) (sym more)
-              (keep_kept vector value belongs ord n lim p quotient_room rest_room h x r hs k c t s less (its_own h x v g t mine) is (subst (λ (u : DivideView). IsRestAt u.run.state (vector x.mono)) (sym g.view) at))) in record {
+              (keep_kept vector value belongs ord n lim p quotient_room rest_room h x r hs k c t s less (its_own h x v whole g t mine) is (subst (λ (u : DivideView). IsRestAt u.run.state (vector x.mono)) (sym g.view) at))) in record {
             kept = kept;
             sound = is_sound vector value belongs ord n lim p quotient_room room (record h { heads = hs; seen = k; last = Some x.mono; processed = h.processed + 1; rest = rest; spare = s }) kept;
             keeps =
@@ -424,9 +423,9 @@ module _ {X M E : Type 0} (vector : M → List ℕ) (value : E → ℤ) (belongs
       pub found_there : Sent → s + 1 ≡ h.spare → terms ≡ h.found ++ t ∷ [] → room ≡ quotient_room → belongs v.run.state.division.p t.coef
           → (v.run.state.division.p ≡ 0 → m ≡ norm (v.run.state.q ++ term_of vector value t ∷ [])) → IsQuotientAt v.run.state (vector x.mono) (term_of vector value t) → Found
       found_there sent less more wide mine norms at =
-          let r = ready h x v g in
+          let r = ready h x v whole g in
           let u : Published vector value belongs ord n lim p quotient_room rest_room h x r hs k c t m s w = record {
-            row = row_of row w sent.of ∙ sym (own_row h x v g row sent.same t);
+            row = row_of row w sent.of ∙ sym (own_row h x v whole g row sent.same t);
             notes = sent.notes;
             publishing = sent.of.0;
             place = subst (λ (u : DivideView). 0 < free_places u) (sym g.view) sent.place;
@@ -436,7 +435,7 @@ module _ {X M E : Type 0} (vector : M → List ℕ) (value : E → ℤ) (belongs
           let kept =
               subst (λ (i : ℕ). IsDivideMerge vector value belongs ord n lim p i rest_room (record h { heads = hs; seen = k; last = Some x.mono; processed = h.processed + 1; found = terms; norm = m; spare = s; writer = w; front = Some x.mono })) (sym wide)
               (subst (λ (L : List (TermOf M E)). IsDivideMerge vector value belongs ord n lim p quotient_room rest_room (record h { heads = hs; seen = k; last = Some x.mono; processed = h.processed + 1; found = L; norm = m; spare = s; writer = w; front = Some x.mono })) (sym more)
-              (find_kept vector value belongs ord n lim p quotient_room rest_room h x r hs k c t m s w u less (its_own h x v g t mine) (λ z. sum (g.kept.made_for.modulus ∙ z)) q)) in record {
+              (find_kept vector value belongs ord n lim p quotient_room rest_room h x r hs k c t m s w u less (its_own h x v whole g t mine) (λ z. sum (whole.made_for.modulus ∙ z)) q)) in record {
             kept = kept;
             sound = is_sound vector value belongs ord n lim p room rest_room (record h { heads = hs; seen = k; last = Some x.mono; processed = h.processed + 1; found = terms; norm = m; spare = s; writer = w; front = Some x.mono }) kept;
             finds =

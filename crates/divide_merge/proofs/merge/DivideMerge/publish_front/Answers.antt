@@ -13,7 +13,7 @@ publish-requires-clause-of g c κs within = writer_of c.args.row.now c.self.insi
 
 pub publish-requires-clause-legal : goal.publish-requires-clause-legal
 publish-requires-clause-legal g c κs within =
-    front_legal g.M.Monomial.vector g.R.CoeffRing.value g.R.CoeffRing.belongs _ _ g.M.Monomial.LIM _ _ _ _ c.args.bound c.lowered-front.result c.args.self.now (record { kept = c.self.invariant; view = c.self.view_is; going = c.requires.going; due = c.requires.due; long = vars g c.lowered-front.result; below = c.lowered-front.ensures.below; multiples = c.lowered-front.ensures.multiples }) c.args.row.now c.requires.row
+    front_legal g.M.Monomial.vector g.R.CoeffRing.value g.R.CoeffRing.belongs _ _ g.M.Monomial.LIM _ _ _ _ c.args.bound c.lowered-front.result c.args.self.now c.self.invariant (record { view = c.self.view_is; going = c.requires.going; due = c.requires.due; long = vars g c.lowered-front.result; below = c.lowered-front.ensures.below; multiples = c.lowered-front.ensures.multiples }) c.args.row.now c.requires.row
 
 pub unreachable-requires : goal.unreachable-requires
 unreachable-requires g c =
@@ -22,17 +22,17 @@ unreachable-requires g c =
 
 pub overflow_add-self : goal.overflow_add-self
 overflow_add-self g c =
-    let low = fronts_low g.M.Monomial.vector g.R.CoeffRing.value g.R.CoeffRing.belongs _ _ g.M.Monomial.LIM _ _ _ _ c.args.bound c.lowered-front.result (fronted_at g.M.Monomial.vector g.R.CoeffRing.value g.R.CoeffRing.belongs _ _ g.M.Monomial.LIM _ _ _ _ c.args.bound c.lowered-front.result c.args.self.now (record { kept = c.self.invariant; view = c.self.view_is; going = c.requires.going; due = c.requires.due; long = vars g c.lowered-front.result; below = c.lowered-front.ensures.below; multiples = c.lowered-front.ensures.multiples })) in
+    let low = fronts_low g.M.Monomial.vector g.R.CoeffRing.value g.R.CoeffRing.belongs _ _ g.M.Monomial.LIM _ _ _ _ c.args.bound c.lowered-front.result (fronted_at g.M.Monomial.vector g.R.CoeffRing.value g.R.CoeffRing.belongs _ _ g.M.Monomial.LIM _ _ _ _ c.args.bound c.lowered-front.result c.args.self.now c.self.invariant (record { view = c.self.view_is; going = c.requires.going; due = c.requires.due; long = vars g c.lowered-front.result; below = c.lowered-front.ensures.below; multiples = c.lowered-front.ensures.multiples })) in
     omega (arith, low)
 
 pub invariant_of-self : goal.invariant_of-self
 invariant_of-self g c =
-    (front_there g.M.Monomial.vector g.R.CoeffRing.value g.R.CoeffRing.belongs _ _ g.M.Monomial.LIM _ _ _ _ c.args.bound c.lowered-front.result c.args.self.now (record { kept = c.self.invariant; view = c.self.view_is; going = c.requires.going; due = c.requires.due; long = vars g c.lowered-front.result; below = c.lowered-front.ensures.below; multiples = c.lowered-front.ensures.multiples }) c.args.row.now c.requires.row c.publish.new.self c.publish.ensures.of (given c.publish.result (sym c.is_err.ensures.value ∙ c.if-is_err.false) c.publish.ensures.published) c.requires.place).kept
+    (front_there g.M.Monomial.vector g.R.CoeffRing.value g.R.CoeffRing.belongs _ _ g.M.Monomial.LIM _ _ _ _ c.args.bound c.lowered-front.result c.args.self.now c.self.invariant (record { view = c.self.view_is; going = c.requires.going; due = c.requires.due; long = vars g c.lowered-front.result; below = c.lowered-front.ensures.below; multiples = c.lowered-front.ensures.multiples }) c.args.row.now c.requires.row c.publish.new.self c.publish.ensures.of (given c.publish.result (sym c.is_err.ensures.value ∙ c.if-is_err.false) c.publish.ensures.published) c.requires.place).kept
 
 pub returns-clause-sound : goal.returns-clause-sound
 returns-clause-sound g c =
-    (front_there g.M.Monomial.vector g.R.CoeffRing.value g.R.CoeffRing.belongs _ _ g.M.Monomial.LIM _ _ _ _ c.args.bound c.lowered-front.result c.args.self.now (record { kept = c.self.invariant; view = c.self.view_is; going = c.requires.going; due = c.requires.due; long = vars g c.lowered-front.result; below = c.lowered-front.ensures.below; multiples = c.lowered-front.ensures.multiples }) c.args.row.now c.requires.row c.publish.new.self c.publish.ensures.of (given c.publish.result (sym c.is_err.ensures.value ∙ c.if-is_err.false) c.publish.ensures.published) c.requires.place).sound
+    (front_there g.M.Monomial.vector g.R.CoeffRing.value g.R.CoeffRing.belongs _ _ g.M.Monomial.LIM _ _ _ _ c.args.bound c.lowered-front.result c.args.self.now c.self.invariant (record { view = c.self.view_is; going = c.requires.going; due = c.requires.due; long = vars g c.lowered-front.result; below = c.lowered-front.ensures.below; multiples = c.lowered-front.ensures.multiples }) c.args.row.now c.requires.row c.publish.new.self c.publish.ensures.of (given c.publish.result (sym c.is_err.ensures.value ∙ c.if-is_err.false) c.publish.ensures.published) c.requires.place).sound
 
 pub returns-clause-publishes : goal.returns-clause-publishes
 returns-clause-publishes g c =
-    (front_there g.M.Monomial.vector g.R.CoeffRing.value g.R.CoeffRing.belongs _ _ g.M.Monomial.LIM _ _ _ _ c.args.bound c.lowered-front.result c.args.self.now (record { kept = c.self.invariant; view = c.self.view_is; going = c.requires.going; due = c.requires.due; long = vars g c.lowered-front.result; below = c.lowered-front.ensures.below; multiples = c.lowered-front.ensures.multiples }) c.args.row.now c.requires.row c.publish.new.self c.publish.ensures.of (given c.publish.result (sym c.is_err.ensures.value ∙ c.if-is_err.false) c.publish.ensures.published) c.requires.place).publishes
+    (front_there g.M.Monomial.vector g.R.CoeffRing.value g.R.CoeffRing.belongs _ _ g.M.Monomial.LIM _ _ _ _ c.args.bound c.lowered-front.result c.args.self.now c.self.invariant (record { view = c.self.view_is; going = c.requires.going; due = c.requires.due; long = vars g c.lowered-front.result; below = c.lowered-front.ensures.below; multiples = c.lowered-front.ensures.multiples }) c.args.row.now c.requires.row c.publish.new.self c.publish.ensures.of (given c.publish.result (sym c.is_err.ensures.value ∙ c.if-is_err.false) c.publish.ensures.published) c.requires.place).publishes
