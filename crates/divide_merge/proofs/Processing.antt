@@ -395,9 +395,9 @@ module _ {X M E : Type 0} (vector : M → List ℕ) (value : E → ℤ) (belongs
           let r = ready h x v whole g in
           let is : term_of vector value t ≡ record { monomial = vector x.mono; coefficient = read_coef (divide_state vector value h) (vector x.mono) } = λ i. record { monomial = vector (mono i); coefficient = (coef ∙ ap (λ (u : DivideView). read_coef u.run.state (vector x.mono)) (sym g.view)) i } in
           let kept =
-              subst (λ (m : ℕ). IsDivideMerge vector value belongs ord n lim p quotient_room m (record h { heads = hs; seen = k; last = Some x.mono; processed = h.processed + 1; rest = rest; spare = s })) (sym same)
-              (subst (λ (L : List (TermOf M E)). IsDivideMerge vector value belongs ord n lim p quotient_room rest_room (record h { heads = hs; seen = k; last = Some x.mono; processed = h.processed + 1; rest = L; spare = s })) (sym more)
-              (keep_kept vector value belongs ord n lim p quotient_room rest_room h x r hs k c t s less (its_own h x v whole g t mine) is (subst (λ (u : DivideView). IsRestAt u.run.state (vector x.mono)) (sym g.view) at))) in record {
+          subst (λ (m : ℕ). IsDivideMerge vector value belongs ord n lim p quotient_room m (record h { heads = hs; seen = k; last = Some x.mono; processed = h.processed + 1; rest = rest; spare = s })) (sym same)
+          (subst (λ (L : List (TermOf M E)). IsDivideMerge vector value belongs ord n lim p quotient_room rest_room (record h { heads = hs; seen = k; last = Some x.mono; processed = h.processed + 1; rest = L; spare = s })) (sym more)
+          (keep_kept vector value belongs ord n lim p quotient_room rest_room h x r hs k c t s less (its_own h x v whole g t mine) is (subst (λ (u : DivideView). IsRestAt u.run.state (vector x.mono)) (sym g.view) at))) in record {
             kept = kept;
             sound = is_sound vector value belongs ord n lim p quotient_room room (record h { heads = hs; seen = k; last = Some x.mono; processed = h.processed + 1; rest = rest; spare = s }) kept;
             keeps =
@@ -433,9 +433,9 @@ module _ {X M E : Type 0} (vector : M → List ℕ) (value : E → ℤ) (belongs
           let q = subst (λ (u : DivideView). IsQuotientAt u.run.state (vector x.mono) (term_of vector value t)) (sym g.view) at in
           let sum = subst (λ (u : DivideView). u.run.state.division.p ≡ 0 → m ≡ norm (u.run.state.q ++ term_of vector value t ∷ [])) (sym g.view) norms in
           let kept =
-              subst (λ (i : ℕ). IsDivideMerge vector value belongs ord n lim p i rest_room (record h { heads = hs; seen = k; last = Some x.mono; processed = h.processed + 1; found = terms; norm = m; spare = s; writer = w; front = Some x.mono })) (sym wide)
-              (subst (λ (L : List (TermOf M E)). IsDivideMerge vector value belongs ord n lim p quotient_room rest_room (record h { heads = hs; seen = k; last = Some x.mono; processed = h.processed + 1; found = L; norm = m; spare = s; writer = w; front = Some x.mono })) (sym more)
-              (find_kept vector value belongs ord n lim p quotient_room rest_room h x r hs k c t m s w u less (its_own h x v whole g t mine) (λ z. sum (whole.made_for.modulus ∙ z)) q)) in record {
+          subst (λ (i : ℕ). IsDivideMerge vector value belongs ord n lim p i rest_room (record h { heads = hs; seen = k; last = Some x.mono; processed = h.processed + 1; found = terms; norm = m; spare = s; writer = w; front = Some x.mono })) (sym wide)
+          (subst (λ (L : List (TermOf M E)). IsDivideMerge vector value belongs ord n lim p quotient_room rest_room (record h { heads = hs; seen = k; last = Some x.mono; processed = h.processed + 1; found = L; norm = m; spare = s; writer = w; front = Some x.mono })) (sym more)
+          (find_kept vector value belongs ord n lim p quotient_room rest_room h x r hs k c t m s w u less (its_own h x v whole g t mine) (λ z. sum (whole.made_for.modulus ∙ z)) q)) in record {
             kept = kept;
             sound = is_sound vector value belongs ord n lim p room rest_room (record h { heads = hs; seen = k; last = Some x.mono; processed = h.processed + 1; found = terms; norm = m; spare = s; writer = w; front = Some x.mono }) kept;
             finds =

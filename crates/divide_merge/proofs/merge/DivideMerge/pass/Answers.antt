@@ -11,8 +11,8 @@ clear_heads-requires-clause-bound g c κs within =
 pub overflow_add-self : goal.overflow_add-self
 overflow_add-self g c =
     let low = processed_low g.M.Monomial.vector g.R.CoeffRing.value g.R.CoeffRing.belongs _ _ g.M.Monomial.LIM _ _ _ _ c.args.next
-        (ready g.M.Monomial.vector g.R.CoeffRing.value g.R.CoeffRing.belongs _ _ g.M.Monomial.LIM _ _ _ _ c.args.next c.args.self.now c.self.invariant
-        (record { view = c.self.view_is; going = c.requires.going; next = c.requires.next; heard = c.requires.heard })) in
+    (ready g.M.Monomial.vector g.R.CoeffRing.value g.R.CoeffRing.belongs _ _ g.M.Monomial.LIM _ _ _ _ c.args.next c.args.self.now c.self.invariant
+    (record { view = c.self.view_is; going = c.requires.going; next = c.requires.next; heard = c.requires.heard })) in
     omega (arith, low)
 
 pub invariant_of-self : goal.invariant_of-self
