@@ -1,5 +1,5 @@
 -- The heads after those at a monomial were taken away.
-use Rattle.std.proofs.Common.{◌≡◌, ℕ, ◌<◌, ℤ, true, false, Bool, cond, List, [], ◌∷◌, length, map, All, Option, Some, None, refl, sym, ap, ◌∙◌, subst}
+use Rattle.std.proofs.Common.{◌≡◌, ℕ, ℤ, true, false, Bool, cond, List, [], ◌∷◌, length, map, All, Option, Some, None, refl, sym, ap, ◌∙◌, subst}
 use Rattle.std.specs.declared.cmp.Ordering.{Ordering}
 use Rattle.std.specs.Ordering.{is_eq}
 use Rattle.std.specs.Prelude.{IfSome, IfNone}
@@ -8,7 +8,6 @@ use Rattle.std.proofs.lemmas.List.Elements.{All-nil, All-cons, All-head, All-tai
 use Rattle.sdmp_laws.specs.Order.{Order, Below, alike}
 use Rattle.sdmp_laws.specs.Poly.{Term, AllBelow}
 use Rattle.sdmp_laws.proofs.OrderLemmas.{order_facts, alike_not}
-use Rattle.whole_laws.specs.Notes.{has}
 use Rattle.whole_laws.specs.Wholes.{head_terms, clear_at}
 use Rattle.ring_heads.specs.declared.head.HeadOf.{HeadOf}
 use Rattle.ring_heads.specs.declared.head.HeadOf.TheVariants as head

@@ -1,15 +1,15 @@
 -- A merge of a division stays as it is to be when it publishes a front.
-use Rattle.std.proofs.Common.{◌≡◌, ◌⊎◌, ℕ, ◌+◌, ◌-◌, ◌*◌, ◌<◌, ◌≤◌, ◌^◌, ℤ, true, false, true≢false, List, [], ◌∷◌, ◌++◌, length, map, Option, Some, None, is_some, refl, sym, ap, ◌∙◌, subst, arith, length-append}
+use Rattle.std.proofs.Common.{◌≡◌, ℕ, ◌+◌, ◌<◌, ◌^◌, ℤ, true, false, true≢false, List, [], ◌∷◌, ◌++◌, length, map, Option, Some, None, is_some, refl, sym, ap, ◌∙◌, subst, arith, length-append}
 use Rattle.std.proofs.lemmas.List.{map-append}
 use Rattle.std.proofs.lemmas.Option.{MatchOption-from_none}
 use Rattle.sdmp_laws.specs.Order.{Order, Divides}
 use Rattle.sdmp_laws.specs.Poly.{lm}
 use Rattle.sdmp_laws.specs.Division.{Division, AtOrAbove}
 use Rattle.divide_wholes.specs.Row.{RowNote, RowFront, RowCarry, row_terms}
-use Rattle.divide_wholes.specs.Wholes.{DivideState, IsFrontAt}
+use Rattle.divide_wholes.specs.Wholes.{IsFrontAt}
 use Rattle.divide_wholes.proofs.RowLemmas.{row_terms-front}
 use Rattle.canonical_terms.specs.View.{sum_of}
-use Rattle.dividing_rounds.specs.Runs.{DivideRun, RunWhole, IsFrontFor, run_front}
+use Rattle.dividing_rounds.specs.Runs.{RunWhole, IsFrontFor, run_front}
 use Rattle.dividing_rounds.specs.Stalls.{IsDue}
 use Rattle.ring_heads.specs.Heads.{plain_heads}
 use Rattle.quotient_row.specs.Ends.{published, IsWriterOf, name_of}

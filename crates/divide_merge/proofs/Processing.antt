@@ -1,5 +1,5 @@
 -- A merge of a division stays as it is to be when it processes what is read next.
-use Rattle.std.proofs.Common.{◌≡◌, ◌≢◌, ◌⊎◌, inl, inr, ◌↔◌, ℕ, zero, suc, ◌+◌, ◌-◌, ◌*◌, ◌<◌, ◌≤◌, ◌^◌, ℤ, pos, min, true, false, Bool, cond, true≢false, List, [], ◌∷◌, ◌++◌, length, get_or, drop, map, All, Option, Some, None, is_some, refl, sym, ap, ◌∙◌, subst, arith, length-append}
+use Rattle.std.proofs.Common.{◌≡◌, ℕ, zero, suc, ◌+◌, ◌<◌, ◌^◌, ℤ, pos, true, false, Bool, cond, true≢false, List, [], ◌∷◌, ◌++◌, length, drop, map, All, Option, Some, None, is_some, refl, sym, ap, ◌∙◌, subst, arith, length-append}
 use Rattle.std.proofs.lemmas.List.{length-map, map-append}
 use Rattle.std.proofs.lemmas.Option.{MatchOption-from_none}
 use Rattle.std.proofs.lemmas.List.Elements.{All-push}
@@ -15,8 +15,8 @@ use Rattle.divide_wholes.specs.Wholes.{DivideState, processed, found, kept}
 use Rattle.divide_wholes.proofs.RowLemmas.{row_terms-append}
 use Rattle.canonical_terms.specs.View.{term_of, sum_of}
 use Rattle.canonical_terms.specs.declared.term.TermOf.{TermOf}
-use Rattle.dividing_rounds.specs.Found.{read_coef, term_at, Fits, IsNext, IsQuotientAt, IsRestAt}
-use Rattle.dividing_rounds.specs.Runs.{DivideRun, RunWhole, run_zero, run_rest, run_found, run_over}
+use Rattle.dividing_rounds.specs.Found.{read_coef, IsNext, IsQuotientAt, IsRestAt}
+use Rattle.dividing_rounds.specs.Runs.{RunWhole, run_zero, run_rest, run_found, run_over}
 use Rattle.dividing_rounds.specs.Stalls.{GoesOn}
 use Rattle.ring_heads.specs.declared.head.HeadOf.{HeadOf}
 use Rattle.ring_heads.specs.Heads.{plain_heads, HeadBelongs, TopFits, size_at}
@@ -32,7 +32,7 @@ use Rattle.divide_merge.specs.Verdicts.{NoneStuck, IsVerdict, IsFinal}
 use Rattle.divide_merge.specs.Merges.{DivideView, IsSound, verdict_of, free_places}
 use Rattle.divide_merge.specs.Reading.{IsReadNext, BeginsAt}
 use Rattle.divide_merge.specs.Steps.{PassesOver, FindsTerm, KeepsTerm, EndsWith}
-use Rattle.divide_merge.specs.Inside.{Held, vector_of, answer_of, NotEnded, taken_notes, published_notes, divide_state, divide_run, divide_view, IsMadeFor, HasWorkers, HasTerms, IsDivideMerge}
+use Rattle.divide_merge.specs.Inside.{Held, vector_of, answer_of, NotEnded, taken_notes, published_notes, divide_state, divide_run, divide_view, IsMadeFor, HasWorkers, IsDivideMerge}
 use Rattle.divide_merge.specs.declared.answer.DivideAdvanceOf.{DivideAdvanceOf}
 use Rattle.divide_merge.specs.declared.mark.Next.{Next}
 use Rattle.dividing_rounds.proofs.LogLemmas.{counts_fit}

@@ -1,4 +1,4 @@
-use Rattle.std.proofs.Common.{◌≡◌, ◌-◌, ◌<◌, ◌∙◌, sym, ap, refl, subst, arith, List, ℕ, true≢false, not}
+use Rattle.std.proofs.Common.{◌-◌, ◌∙◌, sym, ap, subst, arith, ℕ, true≢false, not}
 use Rattle.sdmp_laws.specs.Order.{◌⋅◌, Below}
 use Rattle.divide_merge.specs.Lower.{power}
 use Rattle.divide_merge.proofs.LowerLemmas.{less_below}

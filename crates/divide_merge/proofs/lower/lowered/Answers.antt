@@ -1,5 +1,5 @@
-use Rattle.std.proofs.Common.{◌≡◌, ◌-◌, ◌+◌, ◌<◌, ◌∙◌, sym, ap, refl, subst, arith, List, ℕ, length, suc, inl}
-use Rattle.sdmp_laws.specs.Order.{◌⋅◌, degree}
+use Rattle.std.proofs.Common.{◌≡◌, ◌-◌, sym, refl, subst, arith, List, ℕ, length, suc, inl}
+use Rattle.sdmp_laws.specs.Order.{◌⋅◌}
 use Rattle.sdmp_laws.specs.Division.{AtOrAbove}
 use Rattle.divide_merge.specs.Lower.{power, IsLeastAbove}
 use Rattle.divide_merge.proofs.LowerLemmas.{one_below, none_small, none_least, next_below, next_multiples, either, when_some}

@@ -1,4 +1,4 @@
-use Rattle.std.proofs.Common.{◌≡◌, ◌≤◌, ◌∙◌, ap, List, [], ◌∷◌, set, take, ℕ, arith}
+use Rattle.std.proofs.Common.{◌∙◌, ap, List, [], ◌∷◌, set, take, ℕ, arith}
 use Rattle.sdmp_laws.specs.Order.{◌⋅◌}
 use Rattle.divide_merge.proofs.LowerLemmas.{spelled_power}
 use Rattle.divide_merge.proofs.lower.multiple.Goals as goal

@@ -1,7 +1,7 @@
-use Rattle.std.proofs.Common.{◌≡◌, ◌-◌, ◌<◌, subst, sym, ap, ◌∙◌, arith}
+use Rattle.std.proofs.Common.{◌-◌, ◌<◌, subst, sym, ap, ◌∙◌, arith}
 use Rattle.divide_merge.specs.Merges.{DivideView}
 use Rattle.divide_merge.proofs.Publishing.{given, refused, writer_of, not_full}
-use Rattle.divide_merge.proofs.Processing.{Given, Cleared, ready, own_row, term_fits, term_legal, top_fits, processed_low, found_there}
+use Rattle.divide_merge.proofs.Processing.{ready, own_row, term_fits, term_legal, top_fits, processed_low, found_there}
 use Rattle.divide_merge.proofs.merge.DivideMerge.find_term.Goals as goal
 
 pub publish-requires-clause-of : goal.publish-requires-clause-of

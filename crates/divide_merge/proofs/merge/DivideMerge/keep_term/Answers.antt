@@ -1,6 +1,6 @@
-use Rattle.std.proofs.Common.{◌≡◌, ◌-◌, ◌<◌, subst, sym, arith}
+use Rattle.std.proofs.Common.{◌-◌, ◌<◌, subst, sym, arith}
 use Rattle.divide_merge.specs.Merges.{DivideView}
-use Rattle.divide_merge.proofs.Processing.{Given, Cleared, ready, top_fits, processed_low, kept_there}
+use Rattle.divide_merge.proofs.Processing.{ready, top_fits, processed_low, kept_there}
 use Rattle.divide_merge.proofs.merge.DivideMerge.keep_term.Goals as goal
 
 pub clear_heads-requires-clause-bound : goal.clear_heads-requires-clause-bound

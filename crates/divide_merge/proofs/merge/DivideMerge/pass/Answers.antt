@@ -1,5 +1,5 @@
 use Rattle.std.proofs.Common.{arith}
-use Rattle.divide_merge.proofs.Processing.{Given, Cleared, ready, top_fits, processed_low, passed_over}
+use Rattle.divide_merge.proofs.Processing.{ready, top_fits, processed_low, passed_over}
 use Rattle.divide_merge.proofs.merge.DivideMerge.pass.Goals as goal
 
 pub clear_heads-requires-clause-bound : goal.clear_heads-requires-clause-bound

@@ -1,7 +1,7 @@
 use Rattle.std.proofs.Common.{◌≡◌, sym, ap, ◌∙◌, arith, length}
 use Rattle.divide_merge.specs.Merges.{DivideView}
 use Rattle.divide_merge.proofs.Publishing.{given, refused, writer_of, not_full}
-use Rattle.divide_merge.proofs.Fronting.{Given, own_row, front_legal, fronted_at, fronts_low, front_there}
+use Rattle.divide_merge.proofs.Fronting.{front_legal, fronted_at, fronts_low, front_there}
 use Rattle.divide_merge.proofs.merge.DivideMerge.publish_front.Given.{Over}
 use Rattle.divide_merge.proofs.merge.DivideMerge.publish_front.Goals as goal
 
