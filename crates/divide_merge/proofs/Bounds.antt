@@ -100,6 +100,9 @@ pub far_goes : (s : DivideState) (i : ℕ) (b c : Option (List ℕ)) → SoFar s
 far_goes s i b c f k h g = record { bounded = bound_goes s i b (mark_of s i).1 c f.bounded k refl g; current = below_next (λ w. IsAsked s w → IsCurrent s w) i f.current (λ _. h) }
 
 -- ---- the end
+pub far_ends : (s : DivideState) (i : ℕ) (b c : Option (List ℕ)) → SoFar s i b → i ≡ s.workers → b ≡ c → SoFar s s.workers c
+far_ends s i b c f e k = subst (λ (j : ℕ). SoFar s j c) e (subst (SoFar s i) k f)
+
 pub due_here : (s : DivideState) (x : List ℕ) → SoFar s s.workers (Some x) → IsUnder s.division.ord s.front x → IsDue s x
 unfolding Bounded
 due_here s x f u = record {

@@ -81,6 +81,12 @@ without_heads : (ord : Order) (p : ℕ) (A B : List Term) (m : List ℕ) → All
 unfolding coef
 without_heads ord p A B m h = sym (ap (red p) (total_minus A B m ∙ ap (λ (b : ℤ). total A m +ℤ neg_ℤ b) (total_above ord m B h) ∙ add_zero (total A m)))
 
+pub no_unread : {M : Type 0} (vector : M → List ℕ) (s : DivideState) (x : Next M) → IsReadNext vector s x → x.unread ≡ false → (z : ℤ) → z ≡ pos 0 → z ≡ coef s.division.p s.unread (vector x.mono)
+no_unread vector s x read u z e = e ∙ sym (none_coef s.division.ord s.division.p s.unread (vector x.mono) (read.no_unread u))
+
+pub no_heads : {M : Type 0} (vector : M → List ℕ) (s : DivideState) (x : Next M) → IsReadNext vector s x → x.headed ≡ false → coef s.division.p s.unread (vector x.mono) ≡ read_coef s (vector x.mono)
+no_heads vector s x read e = without_heads s.division.ord s.division.p s.unread (head_terms s.heads) (vector x.mono) (read.no_head e)
+
 no_begin : (m : List ℕ) (A : List Term) → BeginsAt m A → A ≡ [] → ⊥
 no_begin m A b e = true≢false (ap (λ (L : List Term). elim L as (λ _. Bool) [ [] ↦ false | u ∷ B ↦ true ]) (sym b.2 ∙ e))
 
@@ -153,10 +159,11 @@ module _ {X M E : Type 0} {vector : M → List ℕ} {value : E → ℤ} {belongs
       subst (λ (o : Order). IsLowTop o m (vector_of vector i.top) ↔ IsLow v.run.state m w) order_is
       (low_is v.run.state m w (vector_of vector i.top) (mark_is w l i dm e).top)
 
-  pub front_is : (b : Bool) (m : List ℕ) → IsTrue b ↔ IsUnder ord (vector_of vector h.front) m → IsTrue b ↔ IsUnder v.run.state.division.ord v.run.state.front m
-  front_is b m i =
-      subst (λ (u : DivideView). IsTrue b ↔ IsUnder u.run.state.division.ord u.run.state.front m) view
-      (subst (λ (o : Order). IsTrue b ↔ IsUnder o (vector_of vector h.front) m) (sym k.made_for.ordered) i)
+  pub front_is : (b : Bool) (m : List ℕ) → IsTrue b ↔ IsUnder ord (vector_of vector h.front) m → IsTrue b ↔ IsUnder ord v.run.state.front m
+  front_is b m i = subst (λ (u : DivideView). IsTrue b ↔ IsUnder ord u.run.state.front m) view i
+
+  pub under_is : (m : List ℕ) → IsUnder ord v.run.state.front m ↔ IsUnder v.run.state.division.ord v.run.state.front m
+  under_is m = subst (λ (o : Order). IsUnder ord v.run.state.front m ↔ IsUnder o v.run.state.front m) (sym order_is) ((λ u. u), (λ u. u))
 
   pub due_goes : (i : ℕ) → i < v.run.state.workers → (b c : Option M) (m dm : Mark M) → m ≡ get_or h.marks i dm → SoFar v.run.state i (vector_of vector b) → IsAsked v.run.state i → IsCurrent v.run.state i
       → IsGreatest ord (vector_of vector b) (vector_of vector m.top) (vector_of vector c) → SoFar v.run.state (i + 1) (vector_of vector c)
@@ -229,13 +236,7 @@ module _ {X M E : Type 0} {vector : M → List ℕ} {value : E → ℤ} {belongs
         subst (λ (i : DivideView). value t.coef ≡ coef i.run.state.division.p i.run.state.unread (vector x.mono)) view
         (sym (begun_coef d.ord d.p d.n (drop h.seen h.dividend.list) (vector x.mono) (term_of vector value t) a.0 unread_poly (here.unread u) a.1))
 
-    pub no_unread : x.unread ≡ false → (z : ℤ) → z ≡ pos 0 → z ≡ coef v.run.state.division.p v.run.state.unread (vector x.mono)
-    no_unread u z e = e ∙ sym (none_coef v.run.state.division.ord v.run.state.division.p v.run.state.unread (vector x.mono) (read.no_unread u))
-
     -- ---- the heads there
-    pub no_heads : x.headed ≡ false → coef v.run.state.division.p v.run.state.unread (vector x.mono) ≡ read_coef v.run.state (vector x.mono)
-    no_heads e = without_heads v.run.state.division.ord v.run.state.division.p v.run.state.unread (head_terms v.run.state.heads) (vector x.mono) (read.no_head e)
-
     pub some_head : x.headed ≡ true → live vector value h.heads ≡ [] → ⊥
     some_head e none = has_nothing (vector x.mono) (head_terms (plain_heads vector value h.heads)) none (here.headed e).there
 

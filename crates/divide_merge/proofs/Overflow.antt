@@ -17,7 +17,7 @@ use Rattle.sdmp_laws.proofs.DivisionLemmas.{length_lm}
 use Rattle.whole_laws.specs.Notes.{Note, QuotientScript, Carry, after_lead, divisor_rows, script_list, terms_in}
 use Rattle.whole_laws.specs.Wholes.{head_terms, IsHead, notes_of, head_of_worker}
 use Rattle.whole_laws.proofs.NotesLemmas.{Carry-prefix}
-use Rattle.divide_wholes.specs.Wholes.{DivideState, DivideWhole, IsCandidate, divide_script}
+use Rattle.divide_wholes.specs.Wholes.{DivideState, DivideWhole, IsCandidate, IsBeyond, divide_script}
 use Rattle.divide_wholes.proofs.Candidate.{rows_below, rows_over, script_poly, times_nothing, later_under, candidate_bound}
 use Rattle.divide_wholes.proofs.WorkerLemmas.{worker_final}
 use Rattle.dividing_rounds.proofs.WorkloadLemmas.{first_lower}
@@ -61,7 +61,7 @@ not_nothing L before rest t e h = let n = ap (λ (A : List Term). length A) (h �
 -- the size of a head at the candidate
 head_size : (s : DivideState) (x : List ℕ) (w : ℕ) (t : Term) → IsAccepted s.division → DivideWhole s → IsCandidate s x → s.division.p ≡ 0 → w < s.workers → head_of_worker s.heads w ≡ Some t → t.monomial ≡ x
     → size t ≤ norm s.q * norm (divisor_rows s.division.g s.workers w)
-unfolding IsHead divide_script coef Over lm script_list
+unfolding IsHead IsBeyond divide_script coef Over lm script_list
 head_size s x w t a whole c integers l e at =
     let d : Division = s.division in
     let G : List Term = divisor_rows d.g s.workers w in

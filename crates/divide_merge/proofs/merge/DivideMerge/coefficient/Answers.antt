@@ -6,13 +6,13 @@ use Rattle.divide_merge.proofs.merge.DivideMerge.coefficient.Goals as goal
 pub returns-then-not-next : goal.returns-then-not-next
 returns-then-not-next g c =
     let e = c.unread_coefficient-unread.ensures in
-    record { belongs = e.belongs; value = e.value ∙ no_heads c.self.invariant c.self.view_is c.args.next c.requires.next c.if-not-next.true }
+    record { belongs = e.belongs; value = e.value ∙ no_heads g.M.Monomial.vector c.args.self.now.run.state c.args.next c.requires.next c.if-not-next.true }
 
 pub sum_at_top-requires-clause-belongs : goal.sum_at_top-requires-clause-belongs
-sum_at_top-requires-clause-belongs g c = c.self.invariant.workers.heads_belong
+sum_at_top-requires-clause-belongs g c κs within = c.self.invariant.workers.heads_belong
 
 pub sum_at_top-requires-clause-bound : goal.sum_at_top-requires-clause-bound
-sum_at_top-requires-clause-bound g c z = top_fits c.self.invariant c.self.view_is c.args.next c.requires.next c.requires.heard c.if-not-next.false z
+sum_at_top-requires-clause-bound g c κs within z = top_fits c.self.invariant c.self.view_is c.args.next c.requires.next c.requires.heard c.if-not-next.false z
 
 pub unreachable-requires : goal.unreachable-requires
 unreachable-requires g c = some_head c.self.invariant c.self.view_is c.args.next c.requires.next c.if-not-next.false c.in_default.ensures.none

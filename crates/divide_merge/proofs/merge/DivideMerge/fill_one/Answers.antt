@@ -6,8 +6,8 @@ use Rattle.divide_merge.proofs.merge.DivideMerge.fill_one.Goals as goal
 pub loop-self-init : goal.loop-self-init
 loop-self-init g c = one_begins g.M.Monomial.LIM c.args.self.now c.args.worker c.requires.sound
 
-pub is_missing-requires : goal.is_missing-requires
-is_missing-requires g c = one_below g.M.Monomial.LIM c.args.self.now c.loop-self.self c.args.worker c.loop-self.invariant c.requires.worker
+pub is_missing-requires-after_bounds : goal.is_missing-requires-after_bounds
+is_missing-requires-after_bounds g c κs within = one_below g.M.Monomial.LIM c.args.self.now c.loop-self.self c.args.worker c.loop-self.invariant c.requires.worker
 
 pub take_note-requires-clause-going : goal.take_note-requires-clause-going
 take_note-requires-clause-going g c κs within = c.loop-self.invariant.fills.answer ∙ c.requires.going

@@ -8,8 +8,8 @@ use Rattle.divide_merge.proofs.merge.DivideMerge.first_stuck.Goals as goal
 pub loop-worker-init : goal.loop-worker-init
 loop-worker-init g c = λ v l. absurd (omega arith)
 
-pub is_ready-requires : goal.is_ready-requires
-is_ready-requires g c = let e = count c.self.invariant c.self.view_is in let l = c.loop-worker-test.true in omega arith
+pub is_ready-requires-after_bounds : goal.is_ready-requires-after_bounds
+is_ready-requires-after_bounds g c κs within = let e = count c.self.invariant c.self.view_is in omega (arith, e, c.loop-worker-test.true, c.loop-worker.auto.worker-end, c.len.ensures, c.self.inside.readers.ok)
 
 pub loop-worker-preserved : goal.loop-worker-preserved
 loop-worker-preserved g c =
@@ -21,7 +21,4 @@ returns-then-not-is_ready g c = record { stuck = c.is_ready.ensures.no c.if-not-
 pub returns : goal.returns
 returns g c = λ v k.
     let e = count c.self.invariant c.self.view_is in
-    let l = k.asked.worker in
-    let f = c.loop-worker-test.false in
-    let a = c.loop-worker.auto.worker-end in
-    c.loop-worker.invariant v (omega arith) k
+    c.loop-worker.invariant v (omega (arith, e, k.asked.worker, c.loop-worker-test.false, c.loop-worker.auto.worker-end, c.len.ensures, c.self.inside.readers.ok)) k
