@@ -8,10 +8,10 @@ pub loop-worker-init : goal.loop-worker-init
 loop-worker-init g c = far_begins c.args.self.now.run.state (vector_of g.M.Monomial.vector c.args.next) c.requires
 
 pub is_asked-requires-after_bounds : goal.is_asked-requires-after_bounds
-is_asked-requires-after_bounds g c κs within = let e = count c.self.invariant c.self.view_is in omega (arith, e, c.loop-worker-test.true, c.loop-worker.auto.worker-end, c.len.ensures, c.self.inside.readers.ok)
+is_asked-requires-after_bounds g c κs within = let e = count c.self.invariant c.self.view_is in omega (arith, e, c.loop-worker-test.true, c.loop-worker.auto.worker-end, c.len-worker-end.ensures, c.self.inside.readers.ok)
 
 pub is_current-requires-after_bounds : goal.is_current-requires-after_bounds
-is_current-requires-after_bounds g c κs within = let e = count c.self.invariant c.self.view_is in omega (arith, e, c.loop-worker-test.true, c.loop-worker.auto.worker-end, c.len.ensures, c.self.inside.readers.ok)
+is_current-requires-after_bounds g c κs within = let e = count c.self.invariant c.self.view_is in omega (arith, e, c.loop-worker-test.true, c.loop-worker.auto.worker-end, c.len-worker-end.ensures, c.self.inside.readers.ok)
 
 pub loop-worker-preserved-then-not-is_asked : goal.loop-worker-preserved-then-not-is_asked
 loop-worker-preserved-then-not-is_asked g c =
@@ -24,7 +24,7 @@ returns-then-not-is_current g c = λ x.
 pub loop-worker-preserved : goal.loop-worker-preserved
 loop-worker-preserved g c =
     let e = count c.self.invariant c.self.view_is in
-    due_goes c.self.invariant c.self.view_is c.loop-worker.worker (omega (arith, e, c.loop-worker-test.true, c.loop-worker.auto.worker-end, c.len.ensures, c.self.inside.readers.ok))
+    due_goes c.self.invariant c.self.view_is c.loop-worker.worker (omega (arith, e, c.loop-worker-test.true, c.loop-worker.auto.worker-end, c.len-worker-end.ensures, c.self.inside.readers.ok))
     c.loop-worker.bound c.greatest-bound.result c.index.result.now c.index.result.now c.index.ensures c.loop-worker.invariant
     (c.is_asked.ensures.0 c.if-not-is_asked.false) (c.is_current.ensures.0 c.if-not-is_current.false) c.greatest-bound.ensures
 
@@ -33,14 +33,14 @@ returns-in_err-bound g c = λ x.
     let e = count c.self.invariant c.self.view_is in
     none_due c.args.self.now.run.state x
     (far_ends c.args.self.now.run.state c.loop-worker.worker (vector_of g.M.Monomial.vector c.loop-worker.bound) None c.loop-worker.invariant
-    (omega (arith, e, c.loop-worker-test.false, c.loop-worker.auto.worker-end, c.len.ensures, c.self.inside.readers.ok)) (ap (vector_of g.M.Monomial.vector) c.in_err-bound.is))
+    (omega (arith, e, c.loop-worker-test.false, c.loop-worker.auto.worker-end, c.len-worker-end.ensures, c.self.inside.readers.ok)) (ap (vector_of g.M.Monomial.vector) c.in_err-bound.is))
 
 pub returns-then-is_under_front : goal.returns-then-is_under_front
 returns-then-is_under_front g c =
     let e = count c.self.invariant c.self.view_is in
     due_here c.args.self.now.run.state (g.M.Monomial.vector c.in_ok-bound.bound)
     (far_ends c.args.self.now.run.state c.loop-worker.worker (vector_of g.M.Monomial.vector c.loop-worker.bound) (Some (g.M.Monomial.vector c.in_ok-bound.bound)) c.loop-worker.invariant
-    (omega (arith, e, c.loop-worker-test.false, c.loop-worker.auto.worker-end, c.len.ensures, c.self.inside.readers.ok)) (ap (vector_of g.M.Monomial.vector) c.in_ok-bound.is))
+    (omega (arith, e, c.loop-worker-test.false, c.loop-worker.auto.worker-end, c.len-worker-end.ensures, c.self.inside.readers.ok)) (ap (vector_of g.M.Monomial.vector) c.in_ok-bound.is))
     ((under_is c.self.invariant c.self.view_is (g.M.Monomial.vector c.in_ok-bound.bound)).0 (c.is_under_front.ensures.0 c.if-is_under_front.true))
 
 pub returns-else-is_under_front : goal.returns-else-is_under_front
@@ -48,5 +48,5 @@ returns-else-is_under_front g c = λ y.
     let e = count c.self.invariant c.self.view_is in
     not_due_above c.args.self.now.run.state (g.M.Monomial.vector c.in_ok-bound.bound) y
     (far_ends c.args.self.now.run.state c.loop-worker.worker (vector_of g.M.Monomial.vector c.loop-worker.bound) (Some (g.M.Monomial.vector c.in_ok-bound.bound)) c.loop-worker.invariant
-    (omega (arith, e, c.loop-worker-test.false, c.loop-worker.auto.worker-end, c.len.ensures, c.self.inside.readers.ok)) (ap (vector_of g.M.Monomial.vector) c.in_ok-bound.is))
+    (omega (arith, e, c.loop-worker-test.false, c.loop-worker.auto.worker-end, c.len-worker-end.ensures, c.self.inside.readers.ok)) (ap (vector_of g.M.Monomial.vector) c.in_ok-bound.is))
     (λ u. true≢false (sym (c.is_under_front.ensures.1 ((under_is c.self.invariant c.self.view_is (g.M.Monomial.vector c.in_ok-bound.bound)).1 u)) ∙ c.if-is_under_front.false))

@@ -9,7 +9,7 @@ pub loop-worker-init : goal.loop-worker-init
 loop-worker-init g c = λ v l. absurd (omega arith)
 
 pub is_ready-requires-after_bounds : goal.is_ready-requires-after_bounds
-is_ready-requires-after_bounds g c κs within = let e = count c.self.invariant c.self.view_is in omega (arith, e, c.loop-worker-test.true, c.loop-worker.auto.worker-end, c.len.ensures, c.self.inside.readers.ok)
+is_ready-requires-after_bounds g c κs within = let e = count c.self.invariant c.self.view_is in omega (arith, e, c.loop-worker-test.true, c.loop-worker.auto.worker-end, c.len-worker-end.ensures, c.self.inside.readers.ok)
 
 pub loop-worker-preserved : goal.loop-worker-preserved
 loop-worker-preserved g c =
@@ -21,4 +21,4 @@ returns-then-not-is_ready g c = record { stuck = c.is_ready.ensures.no c.if-not-
 pub returns : goal.returns
 returns g c = λ v k.
     let e = count c.self.invariant c.self.view_is in
-    c.loop-worker.invariant v (omega (arith, e, k.asked.worker, c.loop-worker-test.false, c.loop-worker.auto.worker-end, c.len.ensures, c.self.inside.readers.ok)) k
+    c.loop-worker.invariant v (omega (arith, e, k.asked.worker, c.loop-worker-test.false, c.loop-worker.auto.worker-end, c.len-worker-end.ensures, c.self.inside.readers.ok)) k
