@@ -1,4 +1,4 @@
-use Rattle.std.proofs.Common.{◌≡◌, ◌+ℤ◌, subst, sym, ap, ◌∙◌}
+use Rattle.std.proofs.Common.{◌+ℤ◌, subst, sym, ◌∙◌}
 use Rattle.canonical_terms.specs.View.{term_of}
 use Rattle.divide_merge.proofs.Hearing.{modulus_is, no_heads, some_head, sum_coef, top_fits, sum_room}
 use Rattle.divide_merge.proofs.merge.DivideMerge.coefficient.Goals as goal

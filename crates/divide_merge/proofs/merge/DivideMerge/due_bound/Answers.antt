@@ -1,8 +1,8 @@
-use Rattle.std.proofs.Common.{◌≡◌, MatchOption, List, Some, None, ◌<◌, ◌∙◌, ℕ, subst, sym, ap, true≢false, arith}
+use Rattle.std.proofs.Common.{MatchOption, List, Some, None, ◌∙◌, ℕ, subst, sym, ap, true≢false, arith}
 use Rattle.std.specs.ControlFlow.{continue_value}
 use Rattle.dividing_rounds.specs.Stalls.{IsDue}
 use Rattle.divide_merge.specs.Inside.{vector_of}
-use Rattle.divide_merge.proofs.Bounds.{SoFar, far_begins, far_skips, far_ends, due_here, none_due, not_due_late, not_due_above}
+use Rattle.divide_merge.proofs.Bounds.{far_begins, far_skips, far_ends, due_here, none_due, not_due_late, not_due_above}
 use Rattle.divide_merge.proofs.Hearing.{count, under_is, due_goes}
 use Rattle.divide_merge.proofs.merge.DivideMerge.due_bound.Goals as goal
 

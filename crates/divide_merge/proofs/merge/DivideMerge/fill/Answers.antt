@@ -1,6 +1,6 @@
-use Rattle.std.proofs.Common.{◌≡◌, ◌<◌, ◌∙◌, ℕ, length, subst, sym, ap, arith}
+use Rattle.std.proofs.Common.{◌∙◌, length, ap, arith}
 use Rattle.std.proofs.lemmas.List.{length-map}
-use Rattle.term_ring.specs.Names.{RingName, ring_name}
+use Rattle.term_ring.specs.Names.{ring_name}
 use Rattle.divide_merge.proofs.Filling.{filled_begins, filled_next, filled_below, all_filled, same_ring, own_ring}
 use Rattle.divide_merge.proofs.merge.DivideMerge.fill.Goals as goal
 

@@ -1,4 +1,4 @@
-use Rattle.std.proofs.Common.{◌≡◌, ◌<◌, ◌∙◌, ℕ, None, subst, sym, ap, true≢false, arith}
+use Rattle.std.proofs.Common.{◌∙◌, sym, true≢false}
 use Rattle.term_ring.specs.Names.{ring_name}
 use Rattle.divide_merge.proofs.Filling.{one_begins, one_takes, one_idle, fewer_left, one_below, same_ring, asked_later}
 use Rattle.divide_merge.proofs.merge.DivideMerge.fill_one.Goals as goal

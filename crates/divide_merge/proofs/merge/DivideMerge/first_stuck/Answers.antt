@@ -1,4 +1,4 @@
-use Rattle.std.proofs.Common.{◌<◌, ◌∙◌, ℕ, sym, arith}
+use Rattle.std.proofs.Common.{arith}
 use Rattle.dividing_rounds.specs.Stalls.{IsStuck}
 use Rattle.divide_merge.specs.Inside.{vector_of}
 use Rattle.divide_merge.proofs.Bounds.{below_next}

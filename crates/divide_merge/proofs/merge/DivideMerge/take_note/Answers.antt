@@ -1,4 +1,4 @@
-use Rattle.std.proofs.Common.{◌≡◌, subst, sym, ap, ◌∙◌, arith, true≢false}
+use Rattle.std.proofs.Common.{sym, true≢false}
 use Rattle.divide_merge.proofs.Taking.{asked, own_reader, idle_kept, missing, found_none, found_term, found_mark, found_end}
 use Rattle.divide_merge.proofs.merge.DivideMerge.take_note.Goals as goal
 
