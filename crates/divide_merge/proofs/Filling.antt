@@ -1,17 +1,17 @@
 -- Notes are taken of each worker until it has a head or its ring is empty.
-use Rattle.std.proofs.Common.{◌≡◌, ◌⊎◌, inl, inr, ℕ, ◌+◌, ◌-◌, ◌<◌, ◌≤◌, ◌^◌, List, [], ◌∷◌, ◌++◌, length, get_or, set, map, Option, Some, None, refl, sym, ap, ◌∙◌, subst, arith, length-append, append-nil, append_assoc}
+use Rattle.std.proofs.Common.{◌≡◌, ◌⊎◌, inl, inr, ℕ, ◌+◌, ◌-◌, ◌<◌, ◌≤◌, ◌^◌, List, [], ◌∷◌, ◌++◌, length, get_or, set, map, Some, None, refl, sym, ap, ◌∙◌, subst, arith, length-append, append-nil, append_assoc}
 use Rattle.std.proofs.lemmas.List as lists
 use Rattle.std.proofs.lemmas.List.{get_or-set_same, get_or-set_other}
 use mathlib.Core.List.{IsPrefix}
 use Rattle.whole_laws.specs.Notes.{Note, TermNote, MarkNote, EndNote}
 use Rattle.whole_laws.specs.Wholes.{notes_of, head_of_worker}
 use Rattle.whole_laws.proofs.StepLemmas.{each_worker}
-use Rattle.divide_wholes.specs.Wholes.{DivideState, divide_take}
+use Rattle.divide_wholes.specs.Wholes.{divide_take}
 use Rattle.dividing_rounds.specs.Runs.{DivideRun, run_take}
 use Rattle.term_ring.specs.Names.{RingName, NoneBelow, notes_count, ring_name}
 use Rattle.term_ring.specs.declared.ring.Ring.{Ring}
 use Rattle.global_heap.proofs.Steps.{NoneBelow-refl, NoneBelow-trans, NoneBelow-set}
-use Rattle.divide_merge.specs.Merges.{DivideView, IsSound, taken_of, IsStarved, FoundEmpty, AllStarved}
+use Rattle.divide_merge.specs.Merges.{DivideView, IsSound, taken_of, AllStarved}
 use Rattle.divide_merge.specs.Steps.{Looks, TakesNote, Fills, IsLeftAlone, IsAskedAll}
 use Rattle.divide_merge.proofs.Taking.{count_more}
 

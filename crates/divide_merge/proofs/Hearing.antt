@@ -1,11 +1,11 @@
 -- What a merge of a division knows of its workers and of what it reads, as contracts see it.
-use Rattle.std.proofs.Common.{◌≡◌, ◌↔◌, IsTrue, ℕ, zero, suc, ◌+◌, ◌-◌, ◌<◌, ◌≤◌, ℤ, pos, ◌+ℤ◌, neg_ℤ, unsigned_abs, Bool, true, false, true≢false, cond, eqb, nat_eq, nat_lt, List, [], ◌∷◌, ◌++◌, length, get_or, drop, map, All, Option, Some, None, is_some, refl, sym, ap, ◌∙◌, subst, arith}
+use Rattle.std.proofs.Common.{◌≡◌, ◌↔◌, IsTrue, ℕ, zero, suc, ◌+◌, ◌-◌, ◌<◌, ◌≤◌, ℤ, pos, ◌+ℤ◌, neg_ℤ, unsigned_abs, Bool, true, false, true≢false, cond, eqb, nat_eq, nat_lt, List, [], ◌∷◌, length, get_or, drop, map, All, Option, Some, None, is_some, refl, sym, ap, ◌∙◌, subst, arith}
 use Rattle.std.proofs.lemmas.List.{length-map}
 use Rattle.std.proofs.lemmas.Bool.Decides.{nat_tests}
 use Rattle.std.proofs.Math.ListN.{get_or-map}
 use Rattle.sdmp_laws.specs.Order.{Order, IsUnder}
 use Rattle.sdmp_laws.specs.Ring.{red}
-use Rattle.sdmp_laws.specs.Poly.{Term, total, coef, minus, AllBelow, Decreasing, IsPoly}
+use Rattle.sdmp_laws.specs.Poly.{Term, total, coef, minus, AllBelow, IsPoly}
 use Rattle.sdmp_laws.specs.Canonical.{Polynomial}
 use Rattle.sdmp_laws.specs.Division.{Division}
 use Rattle.sdmp_laws.specs.Limits.{greatest_norm}
@@ -13,11 +13,11 @@ use Rattle.sdmp_laws.proofs.Ints.{add_zero, red_zero}
 use Rattle.sdmp_laws.proofs.OrderLemmas.{Three, is_less, is_equal, is_greater, numbers}
 use Rattle.sdmp_laws.proofs.PolyLemmas.{total_minus}
 use Rattle.sdmp_laws.proofs.TermsLemmas.{total_above, coef_head, head_facts, tail_poly}
-use Rattle.whole_laws.specs.Notes.{has, divisor_rows}
+use Rattle.whole_laws.specs.Notes.{divisor_rows}
 use Rattle.whole_laws.specs.Wholes.{head_terms, head_of_worker}
 use Rattle.divide_wholes.specs.Wholes.{DivideState, IsCandidate}
 use Rattle.dividing_rounds.specs.Found.{read_coef}
-use Rattle.dividing_rounds.specs.Stalls.{IsGreatestRead, IsAsked, IsCurrent, IsLow, IsStuck, GoesOn, mark_of}
+use Rattle.dividing_rounds.specs.Stalls.{IsGreatestRead, IsAsked, IsCurrent, IsLow, GoesOn, mark_of}
 use Rattle.dividing_rounds.proofs.StallLemmas.{nobody_stuck}
 use Rattle.dividing_rounds.proofs.WorkloadLemmas.{has_nothing}
 use Rattle.canonical_terms.specs.View.{term_of, sum_of}
@@ -125,13 +125,13 @@ module _ {X M E : Type 0} {vector : M → List ℕ} {value : E → ℤ} {belongs
 
   rows_there : (w : ℕ) → w < length h.readers → (b : Bool) → b ≡ nat_lt (cond (eqb w 0) (length h.readers) w) h.divisor.terms → IsTrue b ↔ (divisor_rows d.g (length h.readers) w ≡ [] → ⊥)
   rows_there w l true e = (
-      (λ t. rows_some d.g (length h.readers) w l (let f = sym e in let c = k.made_for.divisor_is.terms in grind (arith, nat_tests))),
-      (λ i. refl),
-    )
+    (λ t. rows_some d.g (length h.readers) w l (let f = sym e in let c = k.made_for.divisor_is.terms in grind (arith, nat_tests))),
+    (λ i. refl),
+  )
   rows_there w l false e = (
-      (λ t. absurd (true≢false (sym t))),
-      (λ i. absurd (i (rows_none d.g (length h.readers) w l (let f = sym e in let c = k.made_for.divisor_is.terms in grind (arith, nat_tests))))),
-    )
+    (λ t. absurd (true≢false (sym t))),
+    (λ i. absurd (i (rows_none d.g (length h.readers) w l (let f = sym e in let c = k.made_for.divisor_is.terms in grind (arith, nat_tests))))),
+  )
 
   pub asked_is : (w : ℕ) → w < v.run.state.workers → head_of_worker v.run.state.heads w ≡ None → (b : Bool) → b ≡ nat_lt (cond (eqb w 0) (length h.readers) w) h.divisor.terms → IsTrue b ↔ IsAsked v.run.state w
   asked_is w l none b e =

@@ -1,5 +1,5 @@
 -- Over the integers what is read at a candidate stays within the norms.
-use Rattle.std.proofs.Common.{◌≡◌, inl, ℕ, zero, suc, ◌+◌, ◌*◌, ◌<◌, ◌≤◌, ℤ, pos, List, [], ◌∷◌, ◌++◌, length, get_or, cond, true, false, Bool, true≢false, Option, Some, None, is_some, sum_by, unsigned_abs, refl, sym, ap, ◌∙◌, subst, arith, append_assoc, length-append}
+use Rattle.std.proofs.Common.{◌≡◌, inl, ℕ, suc, ◌+◌, ◌*◌, ◌<◌, ◌≤◌, List, [], ◌∷◌, ◌++◌, length, get_or, cond, true, false, Bool, Option, Some, None, sum_by, unsigned_abs, refl, sym, ap, ◌∙◌, subst, arith, append_assoc, length-append}
 use Rattle.std.proofs.Math.Nat.{mul-le-mul}
 use mathlib.Core.List.{IsPrefix, IsSuffix}
 use Rattle.sdmp_laws.specs.Order.{Order, ◌⋅◌, alike, Below}
@@ -7,14 +7,14 @@ use Rattle.sdmp_laws.specs.Ring.{red}
 use Rattle.sdmp_laws.specs.Poly.{Term, total, coef, times, terms, every, norm, lm, Over, AllBelow, IsPoly}
 use Rattle.sdmp_laws.specs.Division.{Division, IsAccepted}
 use Rattle.sdmp_laws.specs.LongDivision.{quotient_list}
-use Rattle.sdmp_laws.specs.Limits.{PassesBound, greatest_norm}
+use Rattle.sdmp_laws.specs.Limits.{greatest_norm}
 use Rattle.sdmp_laws.proofs.OrderLemmas.{order_facts, alike_same, times_comm}
 use Rattle.sdmp_laws.proofs.PolyLemmas.{same_total}
 use Rattle.sdmp_laws.proofs.TermsLemmas.{total_other, coef_head, head_facts, tail_poly, terms_same}
 use Rattle.sdmp_laws.proofs.ListLemmas.{AllBelow-back}
-use Rattle.sdmp_laws.proofs.Parts.{norm_nil, norm_cons, norm_append, norm_times, total-le-norm}
+use Rattle.sdmp_laws.proofs.Parts.{norm_cons, norm_append, norm_times, total-le-norm}
 use Rattle.sdmp_laws.proofs.DivisionLemmas.{length_lm}
-use Rattle.whole_laws.specs.Notes.{Note, QuotientScript, Carry, after_lead, divisor_rows, script_list, terms_in}
+use Rattle.whole_laws.specs.Notes.{Note, QuotientScript, after_lead, divisor_rows, script_list}
 use Rattle.whole_laws.specs.Wholes.{head_terms, IsHead, notes_of, head_of_worker}
 use Rattle.whole_laws.proofs.NotesLemmas.{Carry-prefix}
 use Rattle.divide_wholes.specs.Wholes.{DivideState, DivideWhole, IsCandidate, IsBeyond, divide_script}
@@ -22,7 +22,7 @@ use Rattle.divide_wholes.proofs.Candidate.{rows_below, rows_over, script_poly, t
 use Rattle.divide_wholes.proofs.WorkerLemmas.{worker_final}
 use Rattle.dividing_rounds.proofs.WorkloadLemmas.{first_lower}
 use Rattle.divide_core.proofs.DividingSteps.{not_passed}
-use Rattle.ring_heads.specs.Heads.{size_at, TopFits, IsTopOf}
+use Rattle.ring_heads.specs.Heads.{size_at}
 use Rattle.global_heap.proofs.Counts.{rows_from, rows_le}
 
 abbrev size : Term → ℕ

@@ -1,22 +1,21 @@
 -- A merge of a division stays as it is to be when it takes a note.
-use Rattle.std.proofs.Common.{◌≡◌, ℕ, zero, suc, ◌+◌, ◌<◌, ◌≤◌, ◌^◌, ℤ, min, true, false, Bool, true≢false, is_some, List, [], ◌∷◌, ◌++◌, length, get_or, set, map, All, Option, Some, None, refl, sym, ap, ◌∙◌, subst, arith, length-set}
+use Rattle.std.proofs.Common.{◌≡◌, ℕ, ◌+◌, ◌<◌, ◌≤◌, ◌^◌, ℤ, min, true, false, true≢false, is_some, List, [], ◌∷◌, ◌++◌, length, get_or, set, map, Option, Some, None, refl, sym, ap, ◌∙◌, subst, arith, length-set}
 use Rattle.std.proofs.lemmas.List as lists
 use Rattle.std.proofs.lemmas.List.{length-map, map-set, get_or-set_same, get_or-set_other}
 use Rattle.std.proofs.lemmas.Option.{MatchOption-from_none}
 use Rattle.std.proofs.Math.ListN.{get_or-map}
 use Rattle.std.proofs.lemmas.List.Elements.{All-set}
-use mathlib.Core.List.{IsPrefix}
 use Rattle.sdmp_laws.specs.Order.{Order}
 use Rattle.sdmp_laws.specs.declared.Order.TheVariants as order
 use Rattle.sdmp_laws.specs.Division.{Division}
-use Rattle.whole_laws.specs.Notes.{Note, TermNote, MarkNote, EndNote, Script, QuotientScript, Carry, CarryAfter, MayFollow, EndMayFollow}
+use Rattle.whole_laws.specs.Notes.{Note, TermNote, EndNote, Script, QuotientScript, Carry, CarryAfter, MayFollow, EndMayFollow}
 use Rattle.whole_laws.specs.Wholes.{MergeState, notes_of as notes_at, head_of_worker, merge_start}
 use Rattle.whole_laws.proofs.StepLemmas.{each_worker}
-use Rattle.divide_wholes.specs.Wholes.{DivideState, divide_take, divide_script, latest_mark}
+use Rattle.divide_wholes.specs.Wholes.{DivideState, divide_script, latest_mark}
 use Rattle.canonical_terms.specs.View.{term_of}
 use Rattle.canonical_terms.specs.declared.term.TermOf.{TermOf}
-use Rattle.dividing_rounds.specs.Runs.{DivideRun, RunWhole, run_take}
-use Rattle.term_ring.specs.Spelling.{note_of, notes_of}
+use Rattle.dividing_rounds.specs.Runs.{RunWhole, run_take}
+use Rattle.term_ring.specs.Spelling.{note_of}
 use Rattle.term_ring.specs.Plain.{modulus_of}
 use Rattle.term_ring.specs.Carried.{Fits, Carries}
 use Rattle.term_ring.specs.Ends.{taken, tail_seen, empty_looks, script_in, IsReaderOf}
@@ -27,16 +26,16 @@ use Rattle.term_ring.specs.declared.ring.Ring.{Ring}
 use Rattle.term_ring.specs.declared.ring.Reader.{Reader}
 use Rattle.ring_heads.specs.declared.head.HeadOf.{HeadOf}
 use Rattle.ring_heads.specs.declared.head.HeadOf.TheVariants as head
-use Rattle.ring_heads.specs.Heads.{plain, plain_heads, HeadBelongs}
+use Rattle.ring_heads.specs.Heads.{plain, HeadBelongs}
 use Rattle.global_heap.specs.Inside.{reader_notes}
-use Rattle.global_heap.proofs.States.{same_names, notes_after, one_more}
+use Rattle.global_heap.proofs.States.{same_names, one_more}
 use Rattle.global_heap.proofs.Steps.{NoneBelow-set, count_one, taking}
 use Rattle.global_heap.proofs.Taking.{read_is, met_tail, met_looks, notes_now}
 use Rattle.divide_merge.specs.Names.{writer_row, first_division}
 use Rattle.divide_merge.specs.Verdicts.{Verdict}
 use Rattle.divide_merge.specs.Merges.{DivideView, IsSound, taken_of, IsStarved, FoundEmpty}
 use Rattle.divide_merge.specs.Steps.{Looks, TakesNote}
-use Rattle.divide_merge.specs.Inside.{Held, vector_of, answer_of, NotEnded, taken_notes, published_notes, divide_state, divide_run, divide_view, IsLatest, IsMadeFor, HasWorkers, IsDivideMerge}
+use Rattle.divide_merge.specs.Inside.{Held, answer_of, NotEnded, taken_notes, divide_state, divide_run, divide_view, IsLatest, IsMadeFor, IsDivideMerge}
 use Rattle.divide_merge.specs.declared.mark.Mark.{Mark}
 use Rattle.dividing_rounds.proofs.RunLemmas.{run_take_law}
 use Rattle.divide_merge.proofs.Sound.{is_sound}
@@ -391,11 +390,11 @@ module _ {X M E : Type 0} {vector : M → List ℕ} {value : E → ℤ} {belongs
       let at = after r y (note.Term t) e is in
       let fits' = subst (Fits belongs (script_in ring)) is fits in (
         subst (λ (k : ℕ). IsDivideMerge vector value belongs ord n lim p quotient_room rest_room (record h { readers = set h.readers w r; heads = hs; taken = k })) (sym count)
-        (subst (λ (ks : List (HeadOf M E)). IsDivideMerge vector value belongs ord n lim p quotient_room rest_room (record h { readers = set h.readers w r; heads = ks; taken = min (h.taken + 1) 18446744073709551615 })) (sym put)
-        (term_kept vector value belongs ord n lim p quotient_room rest_room h w ring d a r t of at carries fits' (wanted none))),
+            (subst (λ (ks : List (HeadOf M E)). IsDivideMerge vector value belongs ord n lim p quotient_room rest_room (record h { readers = set h.readers w r; heads = ks; taken = min (h.taken + 1) 18446744073709551615 })) (sym put)
+            (term_kept vector value belongs ord n lim p quotient_room rest_room h w ring d a r t of at carries fits' (wanted none))),
         subst (λ (u : DivideView). Found lim u (divide_view vector value (record h { readers = set h.readers w r; heads = hs; taken = c })) w) view
-        (subst (λ (ks : List (HeadOf M E)). Found lim (divide_view vector value h) (divide_view vector value (record h { readers = set h.readers w r; heads = ks; taken = c })) w) (sym put)
-        (term_view vector value belongs ord n lim p quotient_room rest_room h w ring d a r t of at carries fits' (wanted none) tail looks few)),
+            (subst (λ (ks : List (HeadOf M E)). Found lim (divide_view vector value h) (divide_view vector value (record h { readers = set h.readers w r; heads = ks; taken = c })) w) (sym put)
+            (term_view vector value belongs ord n lim p quotient_room rest_room h w ring d a r t of at carries fits' (wanted none) tail looks few)),
       )
 
   pub found_mark : (r : Reader X M E) (c : ℕ) (y : NoteOf M E) (k : ℕ) (top : Option M) → c ≡ min (h.taken + 1) 18446744073709551615 → y ≡ note.Mark k top
@@ -406,9 +405,9 @@ module _ {X M E : Type 0} {vector : M → List ℕ} {value : E → ℤ} {belongs
       let at = after r y (note.Mark k top) e is in
       let ms = set h.marks w (record { known = k; top = top }) in (
         subst (λ (i : ℕ). IsDivideMerge vector value belongs ord n lim p quotient_room rest_room (record h { readers = set h.readers w r; marks = ms; taken = i })) (sym count)
-        (mark_kept vector value belongs ord n lim p quotient_room rest_room h w ring d a r k top of at carries (wanted none)),
+            (mark_kept vector value belongs ord n lim p quotient_room rest_room h w ring d a r k top of at carries (wanted none)),
         subst (λ (u : DivideView). Found lim u (divide_view vector value (record h { readers = set h.readers w r; marks = ms; taken = c })) w) view
-        (mark_view vector value belongs ord n lim p quotient_room rest_room h w ring d a r k top of at carries (wanted none) tail looks few),
+            (mark_view vector value belongs ord n lim p quotient_room rest_room h w ring d a r k top of at carries (wanted none) tail looks few),
       )
 
   pub found_end : (r : Reader X M E) (y : NoteOf M E) → y ≡ note.End → taken r ≡ taken d ++ y ∷ [] → Carries vector value (script_in ring) (taken r) → ⊥

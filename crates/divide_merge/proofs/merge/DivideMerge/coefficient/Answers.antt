@@ -39,5 +39,5 @@ returns g c =
       belongs = subst (λ q. g.R.CoeffRing.belongs q c.add.result) (sym (modulus_is c.self.invariant c.self.view_is)) c.add.ensures.belongs;
       value = c.add.ensures.value
           ∙ sum_coef c.self.invariant c.self.view_is c.args.next c.requires.next c.if-not-next.false (value c.unread_coefficient-unread.result) (value c.neg-heads.result)
-            (term_of g.M.Monomial.vector value c.in-Some.sum) c.unread_coefficient-unread.ensures.value c.in-Some.ensures.sum c.neg-heads.ensures.value;
+          (term_of g.M.Monomial.vector value c.in-Some.sum) c.unread_coefficient-unread.ensures.value c.in-Some.ensures.sum c.neg-heads.ensures.value;
     }

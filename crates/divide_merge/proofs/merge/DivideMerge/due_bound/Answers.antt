@@ -35,9 +35,9 @@ returns-in_err-bound g c =
     let s = c.args.self.now.run.state in
     let e = count c.self.invariant c.self.view_is in
     subst (λ r. MatchOption r ((x : List ℕ) → IsDue s x → ⊥) (λ b. IsDue s (g.M.Monomial.vector b))) (sym c.from_residual.ensures) (λ x.
-        none_due s x
-        (far_ends s c.loop-worker.worker (vector_of g.M.Monomial.vector c.loop-worker.bound) None c.loop-worker.invariant
-        (omega (arith, e, c.loop-worker-test.false, c.loop-worker.auto.worker-end, c.len-worker-end.ensures, c.self.inside.readers.ok)) (ap (vector_of g.M.Monomial.vector) (c.branch-bound.ensures ∙ ap (λ r. continue_value r) c.in_err-bound.is))))
+    none_due s x
+    (far_ends s c.loop-worker.worker (vector_of g.M.Monomial.vector c.loop-worker.bound) None c.loop-worker.invariant
+    (omega (arith, e, c.loop-worker-test.false, c.loop-worker.auto.worker-end, c.len-worker-end.ensures, c.self.inside.readers.ok)) (ap (vector_of g.M.Monomial.vector) (c.branch-bound.ensures ∙ ap (λ r. continue_value r) c.in_err-bound.is))))
 
 pub returns-then-is_under_front : goal.returns-then-is_under_front
 returns-then-is_under_front g c =
