@@ -1,11 +1,12 @@
 -- The coefficient of what was read at a candidate, made of that of the unread terms and the sum of the heads.
-use Rattle.std.proofs.Common.{◌≡◌, ◌⊎◌, ℕ, ◌+◌, ◌≤◌, ℤ, pos, ◌+ℤ◌, neg_ℤ, unsigned_abs, true, false, Bool, cond, List, [], ◌∷◌, ◌++◌, refl, sym, ap, ◌∙◌, subst, arith}
+use Rattle.std.proofs.Common.{◌≡◌, ℕ, ◌+◌, ◌≤◌, ℤ, ◌+ℤ◌, neg_ℤ, unsigned_abs, true, false, Bool, cond, List, [], ◌∷◌, sym, ap, ◌∙◌, arith}
 use Rattle.std.proofs.lemmas.Int.{ints}
-use Rattle.sdmp_laws.specs.Order.{Order, alike}
+use Rattle.sdmp_laws.specs.Order.{alike}
 use Rattle.sdmp_laws.specs.Ring.{red}
 use Rattle.sdmp_laws.specs.Poly.{Term, total, coef, minus}
 use Rattle.sdmp_laws.specs.Limits.{greatest_norm}
 use Rattle.sdmp_laws.proofs.PolyLemmas.{total_minus}
+use Rattle.sdmp_laws.proofs.Parts.{abs_add}
 use Rattle.sdmp_laws.proofs.Ints.{red_add, red_neg, red_red}
 use Rattle.ring_heads.specs.Heads.{size_at}
 
@@ -13,14 +14,11 @@ use Rattle.ring_heads.specs.Heads.{size_at}
 total_size : (A : List Term) (x : List ℕ) → unsigned_abs (total A x) ≤ size_at x A
 unfolding total size_at
 total_size [] x = omega arith
-total_size (t ∷ A) x = pick (alike t.monomial x)
+total_size (t ∷ A) x = pick (total_size A x) (alike t.monomial x)
   where
-    sum : (a b : ℤ) → unsigned_abs (a +ℤ b) ≤ unsigned_abs a + unsigned_abs b
-    sum a b = omega (arith, ints)
-
-    pick : (b : Bool) → unsigned_abs (cond b (t.coefficient +ℤ total A x) (total A x)) ≤ cond b (unsigned_abs t.coefficient) 0 + size_at x A
-    pick true = let s = sum t.coefficient (total A x) in let i = total_size A x in omega arith
-    pick false = let i = total_size A x in omega arith
+    pick : unsigned_abs (total A x) ≤ size_at x A → (b : Bool) → unsigned_abs (cond b (t.coefficient +ℤ total A x) (total A x)) ≤ cond b (unsigned_abs t.coefficient) 0 + size_at x A
+    pick i true = let s = abs_add t.coefficient (total A x) in omega arith
+    pick i false = omega arith
 
 -- what is added
 pub sum_is : (p : ℕ) (A B : List Term) (x : List ℕ) (u h c : ℤ) → u ≡ coef p A x → h ≡ coef p B x → c ≡ red p (neg_ℤ h) → red p (u +ℤ c) ≡ coef p (minus A B) x

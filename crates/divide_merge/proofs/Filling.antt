@@ -1,15 +1,17 @@
 -- Notes are taken of each worker until it has a head or its ring is empty.
-use Rattle.std.proofs.Common.{◌≡◌, ◌⊎◌, inl, inr, ℕ, ◌+◌, ◌-◌, ◌<◌, ◌≤◌, ◌^◌, List, [], ◌∷◌, ◌++◌, length, get_or, set, Option, Some, None, refl, sym, ap, ◌∙◌, subst, arith, length-append, append-nil, append_assoc}
+use Rattle.std.proofs.Common.{◌≡◌, ◌⊎◌, inl, inr, ℕ, ◌+◌, ◌-◌, ◌<◌, ◌≤◌, ◌^◌, List, [], ◌∷◌, ◌++◌, length, get_or, set, map, Some, None, refl, sym, ap, ◌∙◌, subst, arith, length-append, append-nil, append_assoc}
+use Rattle.std.proofs.lemmas.List as lists
 use Rattle.std.proofs.lemmas.List.{get_or-set_same, get_or-set_other}
 use mathlib.Core.List.{IsPrefix}
 use Rattle.whole_laws.specs.Notes.{Note, TermNote, MarkNote, EndNote}
 use Rattle.whole_laws.specs.Wholes.{notes_of, head_of_worker}
 use Rattle.whole_laws.proofs.StepLemmas.{each_worker}
-use Rattle.divide_wholes.specs.Wholes.{DivideState, divide_take}
+use Rattle.divide_wholes.specs.Wholes.{divide_take}
 use Rattle.dividing_rounds.specs.Runs.{DivideRun, run_take}
-use Rattle.term_ring.specs.Names.{NoneBelow, notes_count}
+use Rattle.term_ring.specs.Names.{RingName, NoneBelow, notes_count, ring_name}
+use Rattle.term_ring.specs.declared.ring.Ring.{Ring}
 use Rattle.global_heap.proofs.Steps.{NoneBelow-refl, NoneBelow-trans, NoneBelow-set}
-use Rattle.divide_merge.specs.Merges.{DivideView, IsSound, taken_of, IsStarved, FoundEmpty, AllStarved}
+use Rattle.divide_merge.specs.Merges.{DivideView, IsSound, taken_of, AllStarved}
 use Rattle.divide_merge.specs.Steps.{Looks, TakesNote, Fills, IsLeftAlone, IsAskedAll}
 use Rattle.divide_merge.proofs.Taking.{count_more}
 
@@ -156,3 +158,69 @@ pub asked_more : (a b c : DivideView) (i : ℕ) → ((v : ℕ) → v < i → IsA
 asked_more a b c i before f l here looks v below =
     each_worker (λ u. u < i + 1 → IsAskedAll a c u) i v (λ _. asked_later a b c i looks here)
     (λ other b'. asked_stays a b c i v f l other (before v (let o = other in grind (arith, other, b')))) below
+
+-- ---- the two loops
+-- notes of the worker w were taken, and nothing else was done
+pub record FilledOne (lim : ℕ) (a b : DivideView) (w : ℕ) : Type 0 where
+  pub sound : IsSound lim b
+  pub fills : Fills a b
+  pub alone : IsLeftAlone a b w
+
+pub one_begins : (lim : ℕ) (a : DivideView) (w : ℕ) → IsSound lim a → FilledOne lim a a w
+one_begins lim a w s = record { sound = s; fills = Fills-refl a; alone = alone_refl a w }
+
+-- how many more notes are taken of w at most
+abbrev pub notes_left : DivideView → ℕ → ℕ
+notes_left v w = 2 ^ 63 - length (taken_of v w)
+
+same_workers : (a b : DivideView) → Fills a b → b.run.state.workers ≡ a.run.state.workers
+same_workers a b f = ap (λ (r : DivideRun). r.state.workers) f.run
+
+pub one_takes : (lim : ℕ) (a b c : DivideView) (w : ℕ) → FilledOne lim a b w → w < a.run.state.workers → IsSound lim c → Looks b c w → TakesNote b c w → FilledOne lim a c w
+one_takes lim a b c w f below s l t = record {
+  sound = s;
+  fills = Fills-trans a b c f.fills (fills_take lim b c w f.sound (let e = same_workers a b f.fills in omega arith) l t);
+  alone = alone_trans a b c w f.alone (alone_take b c w l t);
+}
+
+pub one_idle : (lim : ℕ) (a b c : DivideView) (w : ℕ) → FilledOne lim a b w → IsSound lim c → Looks b c w → c.run ≡ b.run → FilledOne lim a c w
+one_idle lim a b c w f s l e = record {
+  sound = s;
+  fills = Fills-trans a b c f.fills (fills_idle b c w l e);
+  alone = alone_trans a b c w f.alone (alone_idle b c w l e);
+}
+
+pub fewer_left : (lim : ℕ) (a b c : DivideView) (w : ℕ) → FilledOne lim a b w → w < a.run.state.workers → TakesNote b c w → length (taken_of c w) ≤ 2 ^ 63 → notes_left c w < notes_left b w
+fewer_left lim a b c w f below t few = let e = longer lim b c w f.sound (let e = same_workers a b f.fills in omega arith) t in omega arith
+
+-- each worker below i has a head, or was asked in vain
+pub record FilledTo (lim : ℕ) (a b : DivideView) (i : ℕ) : Type 0 where
+  pub sound : IsSound lim b
+  pub fills : Fills a b
+  pub asked : (v : ℕ) → v < i → IsAskedAll a b v
+
+pub filled_begins : (lim : ℕ) (a : DivideView) → IsSound lim a → FilledTo lim a a 0
+filled_begins lim a s = record { sound = s; fills = Fills-refl a; asked = λ v l. absurd (omega arith) }
+
+pub filled_next : (lim : ℕ) (a b c : DivideView) (i : ℕ) → FilledTo lim a b i → IsSound lim c → Fills b c → IsLeftAlone b c i → IsAskedAll b c i → FilledTo lim a c (i + 1)
+filled_next lim a b c i f s g l here = record {
+  sound = s;
+  fills = Fills-trans a b c f.fills g;
+  asked = asked_more a b c i f.asked g l here f.fills.looks;
+}
+
+pub all_filled : (lim : ℕ) (a b : DivideView) (i : ℕ) → FilledTo lim a b i → a.run.state.workers ≡ i → AllStarved a b
+all_filled lim a b i f e w l none = f.asked w (let s = same_workers a b f.fills in omega arith) none
+
+-- ---- what the calls in them are told
+pub one_below : (lim : ℕ) (a b : DivideView) (w : ℕ) → FilledOne lim a b w → w < a.run.state.workers → w < b.run.state.workers
+one_below lim a b w f l = let e = same_workers a b f.fills in omega arith
+
+pub same_ring : (a b : DivideView) (w : ℕ) (name : RingName) → Fills a b → ((d : RingName) → get_or a.rings w d ≡ name) → (d : RingName) → get_or b.rings w d ≡ name
+same_ring a b w name f r d = ap (λ (L : List RingName). get_or L w d) f.rings ∙ r d
+
+pub filled_below : (lim : ℕ) (a b : DivideView) (i w : ℕ) → FilledTo lim a b i → w < a.run.state.workers → w < b.run.state.workers
+filled_below lim a b i w f l = let e = same_workers a b f.fills in omega arith
+
+pub own_ring : {X M E : Type 0} (L : List RingName) (rings : List (Ring X M E)) (w : ℕ) (r : Ring X M E) → L ≡ map ring_name rings → w < length rings → r ≡ get_or rings w r → (d : RingName) → get_or L w d ≡ ring_name r
+own_ring L rings w r e l is d = ap (λ (K : List RingName). get_or K w d) e ∙ lists.get_or-map ring_name rings w r d l ∙ ap ring_name (sym is)

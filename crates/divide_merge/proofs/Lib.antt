@@ -6,6 +6,7 @@ pub mod Overflow
 pub mod Degrees
 pub mod Rows
 pub mod NextRead
+pub mod Hearing
 pub mod Processing
 pub mod Filling
 pub mod Turning

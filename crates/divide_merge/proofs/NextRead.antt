@@ -1,9 +1,12 @@
 -- What is read next: the greatest monomial, and where it stands.
-use Rattle.std.proofs.Common.{◌≡◌, ◌≢◌, ◌⊎◌, inl, inr, ◌↔◌, ℕ, zero, suc, ◌+◌, ◌<◌, ◌≤◌, ℤ, true, false, Bool, true≢false, List, [], ◌∷◌, ◌++◌, length, get_or, drop, map, Option, Some, None, refl, sym, ap, ◌∙◌, subst, arith}
-use Rattle.sdmp_laws.specs.Order.{Order, Below, alike}
+use Rattle.std.proofs.Common.{◌≡◌, ◌≢◌, ◌⊎◌, inl, inr, ℕ, zero, suc, ◌+◌, ◌<◌, ◌≤◌, ℤ, true, false, Bool, true≢false, List, [], ◌∷◌, ◌++◌, length, get_or, drop, None, refl, sym, ap, ◌∙◌, subst, arith}
+use Rattle.std.specs.declared.cmp.Ordering.TheVariants.{Less}
+use Rattle.std.specs.Ordering.{is_lt}
+use Rattle.sdmp_laws.specs.Order.{Order, Below, alike, compare}
 use Rattle.sdmp_laws.specs.Poly.{Term, AllBelow, Decreasing}
 use Rattle.sdmp_laws.specs.Division.{AllAtOrBelow, AtOrAbove}
-use Rattle.sdmp_laws.proofs.OrderLemmas.{order_facts, alike_self}
+use Rattle.sdmp_laws.proofs.OrderLemmas.{Three, is_less, is_equal, is_greater, below_total, alike_self}
+use Rattle.sdmp_laws.proofs.CompareLemmas.{compare_less, compare_greater, compare_same}
 use Rattle.sdmp_laws.proofs.NextTerm.{at_then_below}
 use Rattle.sdmp_laws.proofs.Tests.{or_in_left}
 use Rattle.whole_laws.specs.Notes.{has}
@@ -103,14 +106,17 @@ module _ {M E : Type 0} (vector : M → List ℕ) (value : E → ℤ) (s : Divid
       (λ e. at_then_all s.division.ord (vector x.mono) (vector t) (head_terms s.heads) top.greatest (g.head_below e))
       g.some
 
--- the unread part begins with the next term of the dividend
-pub drop_at : {M E : Type 0} (vector : M → List ℕ) (value : E → ℤ) (ts : List (TermOf M E)) (L : List Term) (i : ℕ) (t : TermOf M E) → sum_of vector value ts ≡ L → i < length ts → t ≡ get_or ts i t → BeginsAt (vector t.mono) (drop i L)
-drop_at vector value ts L i t e l is = subst (λ (A : List Term). BeginsAt (vector t.mono) (drop i A)) e (walk ts i l is)
+-- the next term of the dividend is the first of the unread part
+pub drop_term : {M E : Type 0} (vector : M → List ℕ) (value : E → ℤ) (ts : List (TermOf M E)) (L : List Term) (i : ℕ) (t : TermOf M E) → sum_of vector value ts ≡ L → i < length ts → t ≡ get_or ts i t → (rest : List Term) × (drop i L ≡ term_of vector value t ∷ rest)
+drop_term vector value ts L i t e l is = subst (λ (A : List Term). (rest : List Term) × (drop i A ≡ term_of vector value t ∷ rest)) e (walk ts i l is)
   where
-    walk : (ts : List (TermOf _ _)) (i : ℕ) → i < length ts → t ≡ get_or ts i t → BeginsAt (vector t.mono) (drop i (sum_of vector value ts))
+    walk : (ts : List (TermOf _ _)) (i : ℕ) → i < length ts → t ≡ get_or ts i t → (rest : List Term) × (drop i (sum_of vector value ts) ≡ term_of vector value t ∷ rest)
     walk [] i l is = absurd (omega arith)
-    walk (u ∷ ts) zero l is = (term_of vector value u, sum_of vector value ts, refl, ap (λ (w : TermOf _ _). vector w.mono) (sym is))
+    walk (u ∷ ts) zero l is = (sum_of vector value ts, ap (λ (w : TermOf _ _). term_of vector value w ∷ sum_of vector value ts) (sym is))
     walk (u ∷ ts) (suc i) l is = walk ts i (omega arith) is
+
+pub drop_at : {M E : Type 0} (vector : M → List ℕ) (value : E → ℤ) (ts : List (TermOf M E)) (L : List Term) (i : ℕ) (t : TermOf M E) → sum_of vector value ts ≡ L → i < length ts → t ≡ get_or ts i t → BeginsAt (vector t.mono) (drop i L)
+drop_at vector value ts L i t e l is = let d = drop_term vector value ts L i t e l is in (term_of vector value t, d.0, d.1, refl)
 
 pub drop_all : {M E : Type 0} (vector : M → List ℕ) (value : E → ℤ) (ts : List (TermOf M E)) (L : List Term) (i : ℕ) → sum_of vector value ts ≡ L → length ts ≤ i → drop i L ≡ []
 drop_all vector value ts L i e l = ap (drop i) (sym e) ∙ walk ts i l
@@ -120,3 +126,30 @@ drop_all vector value ts L i e l = ap (drop i) (sym e) ∙ walk ts i l
     walk [] (suc i) l = refl
     walk (u ∷ ts) zero l = absurd (omega arith)
     walk (u ∷ ts) (suc i) l = walk ts i (omega arith)
+
+-- ---- comparison
+pub below_is : (ord : Order) (a b : List ℕ) → length a ≡ length b → compare ord a b ≡ Less → Below ord a b
+below_is ord a b l e = pick (below_total ord a b l)
+  where
+    pick : Three (Below ord a b) (a ≡ b) (Below ord b a) → Below ord a b
+    pick (is_less h) = h
+    pick (is_equal q) = absurd (true≢false (sym (ap is_lt e) ∙ ap is_lt (ap (λ (m : List ℕ). compare ord m b) q ∙ compare_same ord b)))
+    pick (is_greater h) = absurd (true≢false (sym (ap is_lt e) ∙ ap is_lt (compare_greater ord a b h)))
+
+pub not_less : (ord : Order) (a b : List ℕ) → length a ≡ length b → (compare ord a b ≡ Less → ⊥) → AtOrAbove ord b a
+not_less ord a b l n = pick (below_total ord a b l)
+  where
+    pick : Three (Below ord a b) (a ≡ b) (Below ord b a) → AtOrAbove ord b a
+    pick (is_less h) = absurd (n (compare_less ord a b h))
+    pick (is_equal q) = inl (sym q)
+    pick (is_greater h) = inr h
+
+module _ {M : Type 0} (vector : M → List ℕ) (ord : Order) (u t : M) where
+  pub head_greater : Below ord (vector u) (vector t) → IsGreater vector ord u t (record { mono = t; unread = false; headed = true })
+  head_greater b = record { unread_at = λ e. absurd (true≢false (sym e)); unread_below = λ e. b; head_at = λ e. refl; head_below = λ e. absurd (true≢false e); some = inr refl }
+
+  pub both_equal : vector u ≡ vector t → IsGreater vector ord u t (record { mono = u; unread = true; headed = true })
+  both_equal s = record { unread_at = λ e. refl; unread_below = λ e. absurd (true≢false e); head_at = λ e. s; head_below = λ e. absurd (true≢false e); some = inl refl }
+
+  pub unread_greater : Below ord (vector t) (vector u) → IsGreater vector ord u t (record { mono = u; unread = true; headed = false })
+  unread_greater b = record { unread_at = λ e. refl; unread_below = λ e. absurd (true≢false e); head_at = λ e. absurd (true≢false (sym e)); head_below = λ e. b; some = inl refl }

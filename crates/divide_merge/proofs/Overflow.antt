@@ -1,5 +1,5 @@
 -- Over the integers what is read at a candidate stays within the norms.
-use Rattle.std.proofs.Common.{◌≡◌, inl, ℕ, zero, suc, ◌+◌, ◌*◌, ◌<◌, ◌≤◌, ℤ, pos, List, [], ◌∷◌, ◌++◌, length, get_or, cond, true, false, Bool, true≢false, Option, Some, None, is_some, sum_by, unsigned_abs, refl, sym, ap, ◌∙◌, subst, arith, append_assoc, length-append}
+use Rattle.std.proofs.Common.{◌≡◌, inl, ℕ, suc, ◌+◌, ◌*◌, ◌<◌, ◌≤◌, List, [], ◌∷◌, ◌++◌, length, get_or, cond, true, false, Bool, Option, Some, None, sum_by, unsigned_abs, refl, sym, ap, ◌∙◌, subst, arith, append_assoc, length-append}
 use Rattle.std.proofs.Math.Nat.{mul-le-mul}
 use mathlib.Core.List.{IsPrefix, IsSuffix}
 use Rattle.sdmp_laws.specs.Order.{Order, ◌⋅◌, alike, Below}
@@ -7,22 +7,22 @@ use Rattle.sdmp_laws.specs.Ring.{red}
 use Rattle.sdmp_laws.specs.Poly.{Term, total, coef, times, terms, every, norm, lm, Over, AllBelow, IsPoly}
 use Rattle.sdmp_laws.specs.Division.{Division, IsAccepted}
 use Rattle.sdmp_laws.specs.LongDivision.{quotient_list}
-use Rattle.sdmp_laws.specs.Limits.{PassesBound, greatest_norm}
+use Rattle.sdmp_laws.specs.Limits.{greatest_norm}
 use Rattle.sdmp_laws.proofs.OrderLemmas.{order_facts, alike_same, times_comm}
 use Rattle.sdmp_laws.proofs.PolyLemmas.{same_total}
 use Rattle.sdmp_laws.proofs.TermsLemmas.{total_other, coef_head, head_facts, tail_poly, terms_same}
 use Rattle.sdmp_laws.proofs.ListLemmas.{AllBelow-back}
-use Rattle.sdmp_laws.proofs.Parts.{norm_nil, norm_cons, norm_append, norm_times, total-le-norm}
+use Rattle.sdmp_laws.proofs.Parts.{norm_cons, norm_append, norm_times, total-le-norm}
 use Rattle.sdmp_laws.proofs.DivisionLemmas.{length_lm}
-use Rattle.whole_laws.specs.Notes.{Note, QuotientScript, Carry, after_lead, divisor_rows, script_list, terms_in}
+use Rattle.whole_laws.specs.Notes.{Note, QuotientScript, after_lead, divisor_rows, script_list}
 use Rattle.whole_laws.specs.Wholes.{head_terms, IsHead, notes_of, head_of_worker}
 use Rattle.whole_laws.proofs.NotesLemmas.{Carry-prefix}
-use Rattle.divide_wholes.specs.Wholes.{DivideState, DivideWhole, IsCandidate, divide_script}
+use Rattle.divide_wholes.specs.Wholes.{DivideState, DivideWhole, IsCandidate, IsBeyond, divide_script}
 use Rattle.divide_wholes.proofs.Candidate.{rows_below, rows_over, script_poly, times_nothing, later_under, candidate_bound}
 use Rattle.divide_wholes.proofs.WorkerLemmas.{worker_final}
 use Rattle.dividing_rounds.proofs.WorkloadLemmas.{first_lower}
 use Rattle.divide_core.proofs.DividingSteps.{not_passed}
-use Rattle.ring_heads.specs.Heads.{size_at, TopFits, IsTopOf}
+use Rattle.ring_heads.specs.Heads.{size_at}
 use Rattle.global_heap.proofs.Counts.{rows_from, rows_le}
 
 abbrev size : Term → ℕ
@@ -61,8 +61,8 @@ not_nothing L before rest t e h = let n = ap (λ (A : List Term). length A) (h �
 -- the size of a head at the candidate
 head_size : (s : DivideState) (x : List ℕ) (w : ℕ) (t : Term) → IsAccepted s.division → DivideWhole s → IsCandidate s x → s.division.p ≡ 0 → w < s.workers → head_of_worker s.heads w ≡ Some t → t.monomial ≡ x
     → size t ≤ norm s.q * norm (divisor_rows s.division.g s.workers w)
-unfolding IsHead divide_script coef Over lm script_list
-head_size s x w t a whole c zero l e at =
+unfolding IsHead IsBeyond divide_script coef Over lm script_list
+head_size s x w t a whole c integers l e at =
     let d : Division = s.division in
     let G : List Term = divisor_rows d.g s.workers w in
     let notes : List Note = notes_of s.taken w in
@@ -82,7 +82,7 @@ head_size s x w t a whole c zero l e at =
     let value : t.coefficient ≡ red d.p (total (times s.q G) x) =
     sym (in_list d.ord d.p d.n h.0 prefix.0 t poly) ∙ (λ i. red d.p (total (split i) (at i)))
     ∙ script_coef d s.workers w x ∙ final in
-    let plain : t.coefficient ≡ total (times s.q G) x = value ∙ ap (λ (p : ℕ). red p (total (times s.q G) x)) zero in
+    let plain : t.coefficient ≡ total (times s.q G) x = value ∙ ap (λ (p : ℕ). red p (total (times s.q G) x)) integers in
     let z = ap unsigned_abs plain in
     let within = total-le-norm (times s.q G) x in
     let n = norm_times s.q G in
@@ -100,11 +100,9 @@ heads_from B W K w x (None ∷ heads) h =
     let i = heads_from B W K (suc w) x heads (λ v t l e at. subst (λ (u : ℕ). size t ≤ K * norm (every W u 1 B)) (let e : w + suc v ≡ suc w + v = omega arith in e) (h (suc v) t (omega arith) e at)) in
     let m = mul-le-mul (let r : K ≤ K = omega arith in r) (let r : rows_from size W B 1 (suc w) (length heads) ≤ sum_by size (every W w 1 B) + rows_from size W B 1 (suc w) (length heads) = omega arith in r) in
     omega arith
-heads_from B W K w x (Some t ∷ heads) h = pick (alike t.monomial x) refl
+heads_from B W K w x (Some t ∷ heads) h =
+    pick (heads_from B W K (suc w) x heads (λ v t l e at. subst (λ (u : ℕ). size t ≤ K * norm (every W u 1 B)) (let e : w + suc v ≡ suc w + v = omega arith in e) (h (suc v) t (omega arith) e at))) (alike t.monomial x) refl
   where
-    rest : size_at x (head_terms heads) ≤ K * rows_from size W B 1 (suc w) (length heads)
-    rest = heads_from B W K (suc w) x heads (λ v t l e at. subst (λ (u : ℕ). size t ≤ K * norm (every W u 1 B)) (let e : w + suc v ≡ suc w + v = omega arith in e) (h (suc v) t (omega arith) e at))
-
     sum : K * (sum_by size (every W w 1 B) + rows_from size W B 1 (suc w) (length heads)) ≡ K * sum_by size (every W w 1 B) + K * rows_from size W B 1 (suc w) (length heads)
     sum = grind arith
 
@@ -114,9 +112,9 @@ heads_from B W K w x (Some t ∷ heads) h = pick (alike t.monomial x) refl
     here : t.monomial ≡ x → size t ≤ K * norm (every W w 1 B)
     here at = subst (λ (u : ℕ). size t ≤ K * norm (every W u 1 B)) (let e : w + 0 ≡ w = omega arith in e) (h 0 t (omega arith) refl at)
 
-    pick : (b : Bool) → alike t.monomial x ≡ b → cond b (unsigned_abs t.coefficient) 0 + size_at x (head_terms heads) ≤ K * (sum_by size (every W w 1 B) + rows_from size W B 1 (suc w) (length heads))
-    pick true e = let k = here (alike_same t.monomial x e) in let n = ap (λ (m : ℕ). K * m) norms in let r = rest in let c = sum in omega arith
-    pick false e = let r = rest in let c = sum in omega arith
+    pick : size_at x (head_terms heads) ≤ K * rows_from size W B 1 (suc w) (length heads) → (b : Bool) → alike t.monomial x ≡ b → cond b (unsigned_abs t.coefficient) 0 + size_at x (head_terms heads) ≤ K * (sum_by size (every W w 1 B) + rows_from size W B 1 (suc w) (length heads))
+    pick r true e = let k = here (alike_same t.monomial x e) in let n = ap (λ (m : ℕ). K * m) norms in let c = sum in omega arith
+    pick r false e = let c = sum in omega arith
 
 suffix_norm : (A F : List Term) → IsSuffix A F → norm A ≤ norm F
 suffix_norm A F s = let e = ap norm s.1 in let c = norm_append s.0 A in omega arith
@@ -124,9 +122,9 @@ suffix_norm A F s = let e = ap norm s.1 in let c = norm_append s.0 A in omega ar
 -- all that was read at the candidate adds up to no more than the norms allow
 pub read_fits : (s : DivideState) (x : List ℕ) → IsAccepted s.division → DivideWhole s → IsCandidate s x → s.division.p ≡ 0 → unsigned_abs (total s.unread x) + size_at x (head_terms s.heads) ≤ greatest_norm
 unfolding head_of_worker divisor_rows norm
-read_fits s x a whole c zero =
+read_fits s x a whole c integers =
     let B : List Term = after_lead s.division.g in
-    let h = heads_from B s.workers (norm s.q) 0 x s.heads (λ v t l e at. subst (λ (u : ℕ). size t ≤ norm s.q * norm (every s.workers u 1 B)) (let z : v ≡ 0 + v = omega arith in z) (head_size s x v t a whole c zero (let n = whole.heads_count in omega arith) e at)) in
+    let h = heads_from B s.workers (norm s.q) 0 x s.heads (λ v t l e at. subst (λ (u : ℕ). size t ≤ norm s.q * norm (every s.workers u 1 B)) (let z : v ≡ 0 + v = omega arith in z) (head_size s x v t a whole c integers (let n = whole.heads_count in omega arith) e at)) in
     let k = ap (λ (i : ℕ). norm s.q * rows_from size s.workers B 1 0 i) whole.heads_count in
     let r = rows_le size s.workers B 1 in
     let n : sum_by size B ≡ norm B = norm_is B in
@@ -134,7 +132,7 @@ read_fits s x a whole c zero =
     let m = mul-le-mul (let e : norm s.q ≤ norm s.q = omega arith in e) (let e : rows_from size s.workers B 1 0 s.workers ≤ norm s.division.g = omega arith in e) in
     let u = total-le-norm s.unread x in
     let f = suffix_norm s.unread s.division.f whole.unread_suffix in
-    let p = not_passed s.division s.q zero whole.within in
+    let p = not_passed s.division s.q integers whole.within in
     omega arith
   where
     norm_is : (A : List Term) → sum_by size A ≡ norm A

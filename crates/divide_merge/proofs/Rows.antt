@@ -24,17 +24,17 @@ cons_some t A L e n = true≢false (ap (λ (M : List Term). elim M as (λ _. Boo
 place_some : (W w i j : ℕ) (A : List Term) → IsFirstPlace W w i j → j < i + length A → every W w i A ≡ [] → ⊥
 unfolding every
 place_some W w i j [] f l e = let b = f.from in absurd (omega arith)
-place_some W w i j (t ∷ A) f l e = pick (nat_cases i j f.from)
+place_some W w i j (t ∷ A) f l e = pick (λ s. place_some W w (suc i) j A (record { before = λ k a b. f.before k (omega arith) b; here = f.here; from = s }) (omega arith)) (nat_cases i j f.from)
   where
     nat_cases : (i j : ℕ) → i ≤ j → (i ≡ j) ⊎ (suc i ≤ j)
     nat_cases i j b = grind arith
 
-    pick : (i ≡ j) ⊎ (suc i ≤ j) → ⊥
-    pick (inl s) =
+    pick : (suc i ≤ j → every W w (suc i) A ≡ [] → ⊥) → (i ≡ j) ⊎ (suc i ≤ j) → ⊥
+    pick next (inl s) =
         cons_some t (every W w (suc i) A) (cond (eqb (i % W) w) (t ∷ every W w (suc i) A) (every W w (suc i) A))
         (ap (λ (b : Bool). cond b (t ∷ every W w (suc i) A) (every W w (suc i) A)) (eqb_yes (i % W) w (ap (λ (k : ℕ). k % W) s ∙ f.here))) e
-    pick (inr s) =
-        place_some W w (suc i) j A (record { before = λ k a b. f.before k (omega arith) b; here = f.here; from = s }) (omega arith)
+    pick next (inr s) =
+        next s
         (sym (ap (λ (b : Bool). cond b (t ∷ every W w (suc i) A) (every W w (suc i) A)) (eqb_no (i % W) w (f.before i (omega arith) (omega arith)))) ∙ e)
 
 -- and none where it ends before
@@ -52,11 +52,12 @@ first_place W zero l = record {
   here = mod_self W;
   from = omega arith;
 }
-first_place W (suc w) l = record {
-  before = λ k a b e. absurd (let m = mod-eq_of_lt {n = k} {m = W} (omega arith) in omega arith);
-  here = mod-eq_of_lt l;
-  from = omega arith;
-}
+first_place W (suc w) l =
+    subst (IsFirstPlace W (suc w) 1) (sym (ap (λ (b : Bool). cond b W (suc w)) (eqb_no (suc w) 0 (λ z. omega arith)))) (record {
+      before = λ k a b e. absurd (let m = mod-eq_of_lt {n = k} {m = W} (omega arith) in omega arith);
+      here = mod-eq_of_lt l;
+      from = omega arith;
+    })
 
 pub rows_some : (g : List Term) (W w : ℕ) → w < W → cond (eqb w 0) W w < length g → divisor_rows g W w ≢ []
 unfolding divisor_rows

@@ -1,21 +1,21 @@
 -- A merge of a division stays as it is to be when it takes a note.
-use Rattle.std.proofs.Common.{◌≡◌, ℕ, zero, suc, ◌+◌, ◌<◌, ◌≤◌, ◌^◌, ℤ, min, true, false, Bool, true≢false, is_some, List, [], ◌∷◌, ◌++◌, length, get_or, set, map, All, Option, Some, None, refl, sym, ap, ◌∙◌, subst, arith, length-set}
+use Rattle.std.proofs.Common.{◌≡◌, ℕ, ◌+◌, ◌<◌, ◌≤◌, ◌^◌, ℤ, min, true, false, true≢false, is_some, List, [], ◌∷◌, ◌++◌, length, get_or, set, map, Option, Some, None, refl, sym, ap, ◌∙◌, subst, arith, length-set}
 use Rattle.std.proofs.lemmas.List as lists
 use Rattle.std.proofs.lemmas.List.{length-map, map-set, get_or-set_same, get_or-set_other}
 use Rattle.std.proofs.lemmas.Option.{MatchOption-from_none}
 use Rattle.std.proofs.Math.ListN.{get_or-map}
 use Rattle.std.proofs.lemmas.List.Elements.{All-set}
-use mathlib.Core.List.{IsPrefix}
 use Rattle.sdmp_laws.specs.Order.{Order}
+use Rattle.sdmp_laws.specs.declared.Order.TheVariants as order
 use Rattle.sdmp_laws.specs.Division.{Division}
-use Rattle.whole_laws.specs.Notes.{Note, TermNote, MarkNote, EndNote, Script, QuotientScript, Carry, CarryAfter, MayFollow, EndMayFollow}
+use Rattle.whole_laws.specs.Notes.{Note, TermNote, EndNote, Script, QuotientScript, Carry, CarryAfter, MayFollow, EndMayFollow}
 use Rattle.whole_laws.specs.Wholes.{MergeState, notes_of as notes_at, head_of_worker, merge_start}
 use Rattle.whole_laws.proofs.StepLemmas.{each_worker}
-use Rattle.divide_wholes.specs.Wholes.{DivideState, divide_take, divide_script, latest_mark}
+use Rattle.divide_wholes.specs.Wholes.{DivideState, divide_script, latest_mark}
 use Rattle.canonical_terms.specs.View.{term_of}
 use Rattle.canonical_terms.specs.declared.term.TermOf.{TermOf}
-use Rattle.dividing_rounds.specs.Runs.{DivideRun, RunWhole, run_take}
-use Rattle.term_ring.specs.Spelling.{note_of, notes_of}
+use Rattle.dividing_rounds.specs.Runs.{RunWhole, run_take}
+use Rattle.term_ring.specs.Spelling.{note_of}
 use Rattle.term_ring.specs.Plain.{modulus_of}
 use Rattle.term_ring.specs.Carried.{Fits, Carries}
 use Rattle.term_ring.specs.Ends.{taken, tail_seen, empty_looks, script_in, IsReaderOf}
@@ -26,16 +26,16 @@ use Rattle.term_ring.specs.declared.ring.Ring.{Ring}
 use Rattle.term_ring.specs.declared.ring.Reader.{Reader}
 use Rattle.ring_heads.specs.declared.head.HeadOf.{HeadOf}
 use Rattle.ring_heads.specs.declared.head.HeadOf.TheVariants as head
-use Rattle.ring_heads.specs.Heads.{plain, plain_heads, HeadBelongs}
+use Rattle.ring_heads.specs.Heads.{plain, HeadBelongs}
 use Rattle.global_heap.specs.Inside.{reader_notes}
-use Rattle.global_heap.proofs.States.{same_names, notes_after, one_more}
+use Rattle.global_heap.proofs.States.{same_names, one_more}
 use Rattle.global_heap.proofs.Steps.{NoneBelow-set, count_one, taking}
 use Rattle.global_heap.proofs.Taking.{read_is, met_tail, met_looks, notes_now}
 use Rattle.divide_merge.specs.Names.{writer_row, first_division}
 use Rattle.divide_merge.specs.Verdicts.{Verdict}
 use Rattle.divide_merge.specs.Merges.{DivideView, IsSound, taken_of, IsStarved, FoundEmpty}
 use Rattle.divide_merge.specs.Steps.{Looks, TakesNote}
-use Rattle.divide_merge.specs.Inside.{Held, vector_of, answer_of, NotEnded, taken_notes, published_notes, divide_state, divide_run, divide_view, IsLatest, IsMadeFor, HasWorkers, IsDivideMerge}
+use Rattle.divide_merge.specs.Inside.{Held, answer_of, NotEnded, taken_notes, divide_state, divide_run, divide_view, IsLatest, IsMadeFor, IsDivideMerge}
 use Rattle.divide_merge.specs.declared.mark.Mark.{Mark}
 use Rattle.dividing_rounds.proofs.RunLemmas.{run_take_law}
 use Rattle.divide_merge.proofs.Sound.{is_sound}
@@ -44,7 +44,7 @@ use Rattle.divide_merge.proofs.States.{latest_term, latest_new, notes_more, term
 -- how many notes are taken after one more
 pub count_more : (taken : List (List Note)) (w : ℕ) (x : Note) → w < length taken → notes_count (set taken w (notes_at taken w ++ x ∷ [])) ≡ notes_count taken + 1
 count_more taken w x l =
-    let s : MergeState = record (merge_start (record { ord = _; p = 0; n = 0; f = []; g = [] }) 0) { taken = taken } in
+    let s : MergeState = record (merge_start (record { ord = order.Grlex; p = 0; n = 0; f = []; g = [] }) 0) { taken = taken } in
     let k = taking s w x in
     ap notes_count (sym k.taken) ∙ count_one s _ w x l k
 
@@ -277,7 +277,7 @@ module _ {X M E : Type 0} (vector : M → List ℕ) (value : E → ℤ) (belongs
           terms = a.kept.terms;
           publishing = a.kept.publishing;
           row_room = a.kept.row_room;
-          whole = taken_whole r (note.Term t) _ e c none (term_run r t (min (h.taken + 1) 18446744073709551615) of e);
+          whole = taken_whole r (note.Term t) (record h { readers = set h.readers w r; heads = set h.heads w (head.Term t); taken = min (h.taken + 1) 18446744073709551615 }) e c none (term_run r t (min (h.taken + 1) 18446744073709551615) of e);
           begun = a.kept.begun;
           cause = MatchOption-from_none (answer_of vector value h.over) _ a.going;
           counted = counted r (note.Term t) e;
@@ -310,7 +310,7 @@ module _ {X M E : Type 0} (vector : M → List ℕ) (value : E → ℤ) (belongs
           terms = a.kept.terms;
           publishing = a.kept.publishing;
           row_room = a.kept.row_room;
-          whole = taken_whole r (note.Mark k top) _ e c none (mark_run r k top (set h.marks w m) (min (h.taken + 1) 18446744073709551615) of e);
+          whole = taken_whole r (note.Mark k top) (record h { readers = set h.readers w r; marks = set h.marks w m; taken = min (h.taken + 1) 18446744073709551615 }) e c none (mark_run r k top (set h.marks w m) (min (h.taken + 1) 18446744073709551615) of e);
           begun = a.kept.begun;
           cause = MatchOption-from_none (answer_of vector value h.over) _ a.going;
           counted = counted r (note.Mark k top) e;
@@ -365,3 +365,50 @@ module _ {X M E : Type 0} (vector : M → List ℕ) (value : E → ℤ) (belongs
     -- no end was taken
     pub no_end : (r : Reader X M E) → taken r ≡ taken d ++ note.End ∷ [] → Carries vector value (script_in ring) (taken r) → ⊥
     no_end r e c = quotient_no_end (first_division (map reader_name h.readers)) (length h.readers) w (notes_at (taken_notes vector value h.readers) w) (subst (λ (s : Script). Carry s (notes_at (taken_notes vector value h.readers) w ++ EndNote ∷ [])) script_is (subst (λ (ns : List Note). Carry (script_in ring) ns) (one_more vector value h.readers w r r note.End a.below (more r note.End e)) c))
+
+-- what a call's contract says of it, where a view of the merge is called v
+module _ {X M E : Type 0} {vector : M → List ℕ} {value : E → ℤ} {belongs : ℕ → E → Type 0} {ord : Order} {n lim p quotient_room rest_room : ℕ} {h : Held X M E} {w : ℕ} {ring : Ring X M E} {d : Reader X M E} (a : Asked vector value belongs ord n lim p quotient_room rest_room h w ring d) {v : DivideView} (view : divide_view vector value h ≡ v) where
+  wanted : head_of_worker v.run.state.heads w ≡ None → head_of_worker (divide_state vector value h).heads w ≡ None
+  wanted none = subst (λ (u : DivideView). head_of_worker u.run.state.heads w ≡ None) (sym view) none
+
+  pub missing : head_of_worker v.run.state.heads w ≡ None → get_or h.heads w head.Missing ≡ head.Missing
+  missing none = missing_here vector value belongs ord n lim p quotient_room rest_room h w ring d a (wanted none)
+
+  pub found_none : (r : Reader X M E) → IsReaderOf ring r → taken r ≡ taken d → tail_seen d ≤ tail_seen r → tail_seen r ≡ length (taken d) → empty_looks r ≡ empty_looks d + 1
+      → Idle lim v (divide_view vector value (record h { readers = set h.readers w r })) w
+  found_none r of e tail z looks =
+      subst (λ (u : DivideView). Idle lim u (divide_view vector value (record h { readers = set h.readers w r })) w) view
+      (idle_view vector value belongs ord n lim p quotient_room rest_room h w ring d a r of e tail z looks)
+
+  after : (r : Reader X M E) (y x : NoteOf M E) → taken r ≡ taken d ++ y ∷ [] → y ≡ x → taken r ≡ taken d ++ x ∷ []
+  after r y x e is = e ∙ ap (λ (z : NoteOf M E). taken d ++ z ∷ []) is
+
+  pub found_term : (r : Reader X M E) (hs : List (HeadOf M E)) (c : ℕ) (y : NoteOf M E) (t : TermOf M E) → hs ≡ set h.heads w (head.Term t) → c ≡ min (h.taken + 1) 18446744073709551615 → y ≡ note.Term t
+      → head_of_worker v.run.state.heads w ≡ None → IsReaderOf ring r → tail_seen d ≤ tail_seen r → empty_looks r ≡ empty_looks d → taken r ≡ taken d ++ y ∷ [] → Carries vector value (script_in ring) (taken r) → Fits belongs (script_in ring) y → length (taken r) ≤ 2 ^ 63
+      → IsDivideMerge vector value belongs ord n lim p quotient_room rest_room (record h { readers = set h.readers w r; heads = hs; taken = c }) × Found lim v (divide_view vector value (record h { readers = set h.readers w r; heads = hs; taken = c })) w
+  found_term r hs c y t put count is none of tail looks e carries fits few =
+      let at = after r y (note.Term t) e is in
+      let fits' = subst (Fits belongs (script_in ring)) is fits in (
+        subst (λ (k : ℕ). IsDivideMerge vector value belongs ord n lim p quotient_room rest_room (record h { readers = set h.readers w r; heads = hs; taken = k })) (sym count)
+            (subst (λ (ks : List (HeadOf M E)). IsDivideMerge vector value belongs ord n lim p quotient_room rest_room (record h { readers = set h.readers w r; heads = ks; taken = min (h.taken + 1) 18446744073709551615 })) (sym put)
+            (term_kept vector value belongs ord n lim p quotient_room rest_room h w ring d a r t of at carries fits' (wanted none))),
+        subst (λ (u : DivideView). Found lim u (divide_view vector value (record h { readers = set h.readers w r; heads = hs; taken = c })) w) view
+            (subst (λ (ks : List (HeadOf M E)). Found lim (divide_view vector value h) (divide_view vector value (record h { readers = set h.readers w r; heads = ks; taken = c })) w) (sym put)
+            (term_view vector value belongs ord n lim p quotient_room rest_room h w ring d a r t of at carries fits' (wanted none) tail looks few)),
+      )
+
+  pub found_mark : (r : Reader X M E) (c : ℕ) (y : NoteOf M E) (k : ℕ) (top : Option M) → c ≡ min (h.taken + 1) 18446744073709551615 → y ≡ note.Mark k top
+      → head_of_worker v.run.state.heads w ≡ None → IsReaderOf ring r → tail_seen d ≤ tail_seen r → empty_looks r ≡ empty_looks d → taken r ≡ taken d ++ y ∷ [] → Carries vector value (script_in ring) (taken r) → length (taken r) ≤ 2 ^ 63
+      → IsDivideMerge vector value belongs ord n lim p quotient_room rest_room (record h { readers = set h.readers w r; marks = set h.marks w (record { known = k; top = top }); taken = c })
+      × Found lim v (divide_view vector value (record h { readers = set h.readers w r; marks = set h.marks w (record { known = k; top = top }); taken = c })) w
+  found_mark r c y k top count is none of tail looks e carries few =
+      let at = after r y (note.Mark k top) e is in
+      let ms = set h.marks w (record { known = k; top = top }) in (
+        subst (λ (i : ℕ). IsDivideMerge vector value belongs ord n lim p quotient_room rest_room (record h { readers = set h.readers w r; marks = ms; taken = i })) (sym count)
+            (mark_kept vector value belongs ord n lim p quotient_room rest_room h w ring d a r k top of at carries (wanted none)),
+        subst (λ (u : DivideView). Found lim u (divide_view vector value (record h { readers = set h.readers w r; marks = ms; taken = c })) w) view
+            (mark_view vector value belongs ord n lim p quotient_room rest_room h w ring d a r k top of at carries (wanted none) tail looks few),
+      )
+
+  pub found_end : (r : Reader X M E) (y : NoteOf M E) → y ≡ note.End → taken r ≡ taken d ++ y ∷ [] → Carries vector value (script_in ring) (taken r) → ⊥
+  found_end r y is e carries = no_end vector value belongs ord n lim p quotient_room rest_room h w ring d a r (after r y note.End e is) carries
