@@ -13,18 +13,19 @@ use Rattle.divide_wholes.specs.Row.{RowNote, RowTerm, RowFront}
 use Rattle.divide_wholes.specs.Wholes.{DivideState, processed, found, kept}
 use Rattle.dividing_rounds.specs.Runs.{DivideRun, run_zero, run_rest, run_found, run_front, run_over}
 use Rattle.dividing_rounds.specs.Rounds.{progress}
-use Rattle.dividing_rounds.specs.Stalls.{IsGreatestRead, IsAsked, IsStuck, IsDue, mark_of, TopWithin}
+use Rattle.dividing_rounds.specs.Stalls.{IsGreatestRead, IsAsked, IsStuck, IsLow, IsDue, mark_of, TopWithin}
 use Rattle.divide_merge.specs.Verdicts.{Verdict, Finishes, HasNone, PassesNorm, PassesCount, IsBlocked, RowIsFull, OutIsFull, IsVerdict, IsFinal, kept_of, HoldsUp, IsFirstStuck}
 use Rattle.divide_merge.specs.Merges.{DivideView, IsSound, free_places}
-use Rattle.divide_merge.specs.Reached.{DivideReach, divide_reached, Follows, Follows-itself}
+use Rattle.divide_merge.specs.Reached.{DivideReach, divide_reached, RowGrows, Follows, Follows-itself}
 use Rattle.divide_merge.specs.Steps.{Steady, PassesOver, FindsTerm, KeepsTerm, PublishesFront, EndsWith, Answers, GoesFarther, Turns}
 use Rattle.dividing_rounds.proofs.RoundLemmas.{progress_rises}
 use Rattle.divide_merge.proofs.OneAnswer.{at_has, at_both}
-use Rattle.divide_merge.proofs.Filling.{prefix_refl}
+use Rattle.divide_merge.proofs.Reserving.{final_anywhere}
+use Rattle.divide_merge.proofs.Following.{RowGrows-refl, row_same, row_longer}
 
 module _ (lim : ℕ) (a b : DivideView) (s : IsSound lim a) (going : a.answer ≡ None) where
   -- it isn't over
-  pub not_over : a.run.over ≡ false
+  not_over : a.run.over ≡ false
   not_over = s.over ∙ ap (λ (o : Option Verdict). is_some o) going
 
   -- ---- a monomial was processed
@@ -36,7 +37,7 @@ module _ (lim : ℕ) (a b : DivideView) (s : IsSound lim a) (going : a.answer �
     division = ap (λ (r : DivideRun). r.state.division) p.run;
     start = ap (λ (r : DivideRun). r.state.start) p.run;
     taken = ap (λ (r : DivideRun). r.state.taken) p.run;
-    notes = subst (λ (r : DivideRun). IsPrefix a.run.notes r.notes) (sym p.run) (prefix_refl a.run.notes);
+    row_grows = row_same a.run b.run (ap (λ (r : DivideRun). r.notes) p.run) (ap (λ (r : DivideRun). r.state.front) p.run);
     found = [];
     kept = [];
     q = ap (λ (r : DivideRun). r.state.q) p.run ∙ sym (append-nil a.run.state.q);
@@ -58,7 +59,7 @@ module _ (lim : ℕ) (a b : DivideView) (s : IsSound lim a) (going : a.answer �
     division = ap (λ (r : DivideRun). r.state.division) p.run;
     start = ap (λ (r : DivideRun). r.state.start) p.run;
     taken = ap (λ (r : DivideRun). r.state.taken) p.run;
-    notes = (RowTerm t ∷ [], sym (ap (λ (r : DivideRun). r.notes) p.run));
+    row_grows = row_longer a.run b.run (RowTerm t) (ap (λ (r : DivideRun). r.notes) p.run);
     found = t ∷ [];
     kept = [];
     q = ap (λ (r : DivideRun). r.state.q) p.run;
@@ -80,7 +81,7 @@ module _ (lim : ℕ) (a b : DivideView) (s : IsSound lim a) (going : a.answer �
     division = ap (λ (r : DivideRun). r.state.division) p.run;
     start = ap (λ (r : DivideRun). r.state.start) p.run;
     taken = ap (λ (r : DivideRun). r.state.taken) p.run;
-    notes = subst (λ (r : DivideRun). IsPrefix a.run.notes r.notes) (sym p.run) (prefix_refl a.run.notes);
+    row_grows = row_same a.run b.run (ap (λ (r : DivideRun). r.notes) p.run) (ap (λ (r : DivideRun). r.state.front) p.run);
     found = [];
     kept = _ ∷ [];
     q = ap (λ (r : DivideRun). r.state.q) p.run ∙ sym (append-nil a.run.state.q);
@@ -103,17 +104,17 @@ module _ (lim : ℕ) (a b : DivideView) (s : IsSound lim a) (going : a.answer �
     division = ap (λ (r : DivideRun). r.state.division) p.run;
     start = ap (λ (r : DivideRun). r.state.start) p.run;
     taken = ap (λ (r : DivideRun). r.state.taken) p.run;
-    notes = subst (λ (r : DivideRun). IsPrefix a.run.notes r.notes) (sym p.run) (prefix_refl a.run.notes);
+    row_grows = row_same a.run b.run (ap (λ (r : DivideRun). r.notes) p.run) (ap (λ (r : DivideRun). r.state.front) p.run);
     found = [];
     kept = [];
     q = ap (λ (r : DivideRun). r.state.q) p.run ∙ sym (append-nil a.run.state.q);
     r = ap (λ (r : DivideRun). r.state.r) p.run ∙ sym (append-nil a.run.state.r);
     spare = let e = p.spare in omega arith;
     ends = record {
-      cause = final_cause x f a.run.state b.run.state (free_places a) (free_places b) a.spare b.spare (ap (λ (r : DivideRun). r.state) p.run) v;
+      cause = subst (λ (u : DivideState). IsVerdict u (free_places b) b.spare x) (sym (ap (λ (r : DivideRun). r.state) p.run)) (final_anywhere x a.run.state _ _ _ _ f v);
       answer = p.answer ∙ sym (final_kept x f);
       heads = ap (λ (r : DivideRun). r.state.heads) p.run;
-      follows = inr (not_over, inl (ap (λ (r : DivideRun). r.over) p.run));
+      follows = inr (not_over, inl (ap (λ (r : DivideRun). r.over) p.run), row_same a.run b.run (ap (λ (r : DivideRun). r.notes) p.run) (ap (λ (r : DivideRun). r.state.front) p.run));
     };
     goes_on = λ e. absurd (true≢false (ap (λ (o : Option Verdict). is_some o) e));
   }
@@ -126,18 +127,6 @@ module _ (lim : ℕ) (a b : DivideView) (s : IsSound lim a) (going : a.answer �
       final_kept (IsBlocked w) f = absurd f
       final_kept RowIsFull f = absurd f
       final_kept OutIsFull f = absurd f
-
-      final_cause : (x : Verdict) → IsFinal x → (s t : DivideState) (i j m n : ℕ) → t ≡ s → IsVerdict s i m x → IsVerdict t j n x
-      final_cause x f s t i j m n e v = subst (λ (u : DivideState). IsVerdict u j n x) (sym e) (other x f v)
-        where
-          other : (x : Verdict) → IsFinal x → IsVerdict s i m x → IsVerdict s j n x
-          other Finishes f v = v
-          other (HasNone y) f v = v
-          other (PassesNorm t) f v = v
-          other (PassesCount t) f v = v
-          other (IsBlocked w) f v = absurd f
-          other RowIsFull f v = absurd f
-          other OutIsFull f v = absurd f
 
 -- ---- a front that is due
 -- what was read, and the tops of the asked workers, are at one bound or below, at which one of them stands
@@ -180,7 +169,7 @@ module _ (lim : ℕ) (a b : DivideView) (s : IsSound lim a) (going : a.answer �
     division = refl;
     start = refl;
     taken = refl;
-    notes = prefix_refl a.run.notes;
+    row_grows = RowGrows-refl a.run;
     found = [];
     kept = [];
     q = sym (append-nil a.run.state.q);
@@ -199,7 +188,7 @@ module _ (lim : ℕ) (a b : DivideView) (s : IsSound lim a) (going : a.answer �
     division = ap (λ (r : DivideRun). r.state.division) p.run;
     start = ap (λ (r : DivideRun). r.state.start) p.run;
     taken = ap (λ (r : DivideRun). r.state.taken) p.run;
-    notes = (RowFront p.front ∷ [], sym (ap (λ (r : DivideRun). r.notes) p.run));
+    row_grows = row_longer a.run b.run (RowFront p.front) (ap (λ (r : DivideRun). r.notes) p.run);
     found = [];
     kept = [];
     q = ap (λ (r : DivideRun). r.state.q) p.run ∙ sym (append-nil a.run.state.q);
@@ -209,15 +198,17 @@ module _ (lim : ℕ) (a b : DivideView) (s : IsSound lim a) (going : a.answer �
       cause = subst (λ (t : DivideState). IsVerdict t (free_places b) b.spare (IsBlocked w)) (sym (ap (λ (r : DivideRun). r.state) p.run)) (held, none);
       answer = p.answer ∙ going;
       heads = ap (λ (r : DivideRun). r.state.heads) p.run;
-      follows = inr (still, inr (let e = ap progress p.run in let k = (progress_rises a.run).4 p.front in omega arith));
+      follows = inr (still, inr (let e = ap progress p.run in let k = (progress_rises a.run).4 p.front in omega arith), row_longer a.run b.run (RowFront p.front) (ap (λ (r : DivideRun). r.notes) p.run));
     };
     goes_on = λ e. absurd (true≢false (ap (λ (o : Option Verdict). is_some o) e));
   }
     where
       stuck : (m : Option (List ℕ)) (v : ℕ) → IsStuck a.run.state m v → IsStuck (record a.run.state { front = Some p.front }) m v
+      unfolding IsLow
       stuck m v k = record { asked = record { worker = k.asked.worker; no_head = k.asked.no_head; rows = k.asked.rows }; waits = λ c l. k.waits c l }
 
       back : (m : Option (List ℕ)) (v : ℕ) → IsStuck (record a.run.state { front = Some p.front }) m v → IsStuck a.run.state m v
+      unfolding IsLow
       back m v k = record { asked = record { worker = k.asked.worker; no_head = k.asked.no_head; rows = k.asked.rows }; waits = λ c l. k.waits c l }
 
       held : HoldsUp (record a.run.state { front = Some p.front }) w
