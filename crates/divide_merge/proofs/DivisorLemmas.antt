@@ -1,5 +1,5 @@
 -- What a merge keeps of its divisor.
-use Rattle.std.proofs.Common.{◌≡◌, ◌≢◌, ◌↔◌, ℕ, zero, suc, ◌≤◌, ℤ, List, [], ◌∷◌, length, get_or, All, Option, MatchOption, IsTrue, nat_eq, true≢false, refl, sym, ap, ◌∙◌, subst, arith}
+use Rattle.std.proofs.Common.{◌≡◌, ◌≢◌, ◌↔◌, ℕ, zero, suc, ◌≤◌, ℤ, List, [], ◌∷◌, length, get_or, All, Option, MatchOption, IsTrue, eqb, eqb-true, eq-eqb, refl, sym, ap, ◌∙◌, subst, arith}
 use Rattle.std.proofs.lemmas.List.{length-map}
 use Rattle.sdmp_laws.specs.Order.{Order, degree}
 use Rattle.sdmp_laws.specs.Ring.{IsUnit, IsInverse}
@@ -10,9 +10,8 @@ use Rattle.canonical_terms.specs.View.{sum_of, term_of}
 use Rattle.canonical_terms.specs.declared.term.TermOf.{TermOf}
 use Rattle.divide_core.specs.Dividing.{IsLeading}
 
-pub is_zero : (n p : ℕ) → n ≡ p → IsTrue (nat_eq n 0) ↔ p ≡ 0
-is_zero zero p e = ((λ t. sym e), (λ z. refl))
-is_zero (suc n) p e = ((λ t. absurd (true≢false (sym t))), (λ z. absurd (let x = e ∙ z in omega arith)))
+pub is_zero : (n p : ℕ) → n ≡ p → IsTrue (eqb n 0) ↔ p ≡ 0
+is_zero n p e = ((λ t. sym e ∙ eqb-true n 0 t), (λ z. eq-eqb n 0 (e ∙ z)))
 
 module _ {M E : Type 0} (vector : M → List ℕ) (value : E → ℤ) (Belongs : E → Type 0) (ord : Order) (n lim p : ℕ) (g : List Term) where
   -- the first of the divisor's terms leads it

@@ -1,5 +1,5 @@
 -- One turn of an advance: what is read next is processed, or the merge answers.
-use Rattle.std.proofs.Common.{◌≡◌, ◌≢◌, ◌⊎◌, inl, inr, ℕ, ◌+◌, ◌-◌, ◌<◌, ◌≤◌, ℤ, true, false, Bool, true≢false, List, [], ◌∷◌, ◌++◌, length, get_or, Option, Some, None, is_some, refl, sym, ap, ◌∙◌, subst, arith, length-append, append-nil, append_assoc}
+use Rattle.std.proofs.Common.{◌≡◌, ◌≢◌, ◌⊎◌, inl, inr, ℕ, ◌+◌, ◌-◌, ◌<◌, ◌≤◌, ℤ, true, false, Bool, true≢false, List, [], ◌∷◌, ◌++◌, length, get_or, Option, Some, None, MatchOption, is_some, refl, sym, ap, ◌∙◌, subst, arith, length-append, append-nil, append_assoc}
 use Rattle.std.specs.Option.{IfSome}
 use mathlib.Core.List.{IsPrefix}
 use Rattle.sdmp_laws.specs.Order.{Order, Below, IsUnder}
@@ -14,9 +14,14 @@ use Rattle.divide_wholes.specs.Wholes.{DivideState, processed, found, kept}
 use Rattle.dividing_rounds.specs.Runs.{DivideRun, run_zero, run_rest, run_found, run_front, run_over}
 use Rattle.dividing_rounds.specs.Rounds.{progress}
 use Rattle.dividing_rounds.specs.Stalls.{IsGreatestRead, IsAsked, IsStuck, IsLow, IsDue, mark_of, TopWithin}
-use Rattle.divide_merge.specs.Verdicts.{Verdict, Finishes, HasNone, PassesNorm, PassesCount, IsBlocked, RowIsFull, OutIsFull, IsVerdict, IsFinal, kept_of, HoldsUp, IsFirstStuck}
+use Rattle.divide_merge.specs.Verdicts.{Verdict, Finishes, HasNone, PassesNorm, PassesCount, IsBlocked, RowIsFull, OutIsFull, IsVerdict, IsFinal, kept_of, HoldsUp, IsFirstStuck, NoneStuck, IsTermDue, IsLeftOver, IsTermWithin, with_term}
+use Rattle.sdmp_laws.specs.Limits.{Passes, PassesBound, quotient_terms_limit}
+use Rattle.sdmp_laws.specs.declared.Mode.TheVariants.{Exact, Remainder}
 use Rattle.divide_merge.specs.Merges.{DivideView, IsSound, free_places}
 use Rattle.divide_merge.specs.Reached.{DivideReach, divide_reached, RowGrows, Follows, Follows-itself}
+use Rattle.divide_merge.specs.Inside.{vector_of}
+use Rattle.divide_merge.specs.Reading.{IsReadNext, next_mono}
+use Rattle.divide_merge.specs.declared.mark.Next.{Next}
 use Rattle.divide_merge.specs.Steps.{Steady, PassesOver, FindsTerm, KeepsTerm, PublishesFront, EndsWith, Answers, GoesFarther, Turns}
 use Rattle.dividing_rounds.proofs.RoundLemmas.{progress_rises}
 use Rattle.divide_merge.proofs.OneAnswer.{at_has, at_both}
@@ -181,7 +186,7 @@ module _ (lim : ℕ) (a b : DivideView) (s : IsSound lim a) (going : a.answer �
 
   -- a front was published, and a worker is waited for
   pub turns_front : (x : List ℕ) (w : ℕ) → PublishesFront a b x → IsDue a.run.state x → HoldsUp a.run.state w → Turns a b (Some (IsBlocked w))
-  unfolding run_front kept_of IsVerdict IsUnder
+  unfolding run_front kept_of IsVerdict IsUnder IsLow
   turns_front x w p d h = record {
     steady = p.steady;
     workers = ap (λ (r : DivideRun). r.state.workers) p.run;
@@ -204,11 +209,9 @@ module _ (lim : ℕ) (a b : DivideView) (s : IsSound lim a) (going : a.answer �
   }
     where
       stuck : (m : Option (List ℕ)) (v : ℕ) → IsStuck a.run.state m v → IsStuck (record a.run.state { front = Some p.front }) m v
-      unfolding IsLow
       stuck m v k = record { asked = record { worker = k.asked.worker; no_head = k.asked.no_head; rows = k.asked.rows }; waits = λ c l. k.waits c l }
 
       back : (m : Option (List ℕ)) (v : ℕ) → IsStuck (record a.run.state { front = Some p.front }) m v → IsStuck a.run.state m v
-      unfolding IsLow
       back m v k = record { asked = record { worker = k.asked.worker; no_head = k.asked.no_head; rows = k.asked.rows }; waits = λ c l. k.waits c l }
 
       held : HoldsUp (record a.run.state { front = Some p.front }) w
@@ -230,3 +233,55 @@ module _ (lim : ℕ) (a b : DivideView) (s : IsSound lim a) (going : a.answer �
           reached : (has z (a.run.state.unread ++ head_terms a.run.state.heads) ≡ true) ⊎ ((v : ℕ) × IsAsked (record a.run.state { front = Some p.front }) v × ((mark_of a.run.state v).1 ≡ Some z)) → (has z (a.run.state.unread ++ head_terms a.run.state.heads) ≡ true) ⊎ ((v : ℕ) × IsAsked a.run.state v × ((mark_of a.run.state v).1 ≡ Some z))
           reached (inl i) = inl i
           reached (inr v) = inr (v.0, asked v.0 v.1, v.2)
+
+  -- ---- answers where nothing was done
+  pub same_blocked : (w : ℕ) (m : Option (List ℕ)) → IsGreatestRead a.run.state m → IsFirstStuck a.run.state m w → ((x : List ℕ) → IsDue a.run.state x → ⊥) → b ≡ a → Turns a b (Some (IsBlocked w))
+  unfolding kept_of IsVerdict
+  same_blocked w m read first none e = turns_same (IsBlocked w) e refl (record { next = m; read = read; first = first }, none)
+
+  pub same_row_front : (w : ℕ) (m : Option (List ℕ)) (x : List ℕ) → IsGreatestRead a.run.state m → IsFirstStuck a.run.state m w → IsDue a.run.state x → free_places a ≡ 0 → b ≡ a → Turns a b (Some RowIsFull)
+  unfolding kept_of IsVerdict
+  same_row_front w m x read first due free e =
+      turns_same RowIsFull e refl (free, inl (record { worker = w; held = record { next = m; read = read; first = first }; bound = x; due = due }))
+
+  pub same_row_term : (t : Term) → IsTermDue a.run.state t → (PassesBound a.run.state.division (with_term a.run.state t) → ⊥) → free_places a ≡ 0 → b ≡ a → Turns a b (Some RowIsFull)
+  unfolding kept_of IsVerdict
+  same_row_term t due within free e = turns_same RowIsFull e refl (free, inr (t, record { due = due; within = within }))
+
+  pub same_out_term : (t : Term) → IsTermDue a.run.state t → (PassesBound a.run.state.division (with_term a.run.state t) → ⊥) → 0 < free_places a → a.spare ≡ 0 → b ≡ a → Turns a b (Some OutIsFull)
+  unfolding kept_of IsVerdict
+  same_out_term t due within free spare e = turns_same OutIsFull e refl (spare, inl (t, record { due = due; within = within }, free))
+
+  pub same_out_rest : (x : List ℕ) → a.run.state.division.mode ≡ Remainder → IsLeftOver a.run.state x → a.spare ≡ 0 → b ≡ a → Turns a b (Some OutIsFull)
+  unfolding kept_of IsVerdict
+  same_out_rest x mode left spare e = turns_same OutIsFull e refl (spare, inr (mode, (x, left)))
+
+-- ---- last answers
+module _ (s : DivideState) (free spare : ℕ) where
+  pub last_finished : IsGreatestRead s None → NoneStuck s None → IsFinal Finishes × IsVerdict s free spare Finishes
+  unfolding IsFinal IsVerdict
+  last_finished read heard = (tt, (read, heard))
+
+  pub last_none : (x : List ℕ) → s.division.mode ≡ Exact → IsLeftOver s x → IsFinal (HasNone x) × IsVerdict s free spare (HasNone x)
+  unfolding IsFinal IsVerdict
+  last_none x mode left = (tt, (mode, left))
+
+  pub last_norm : (t : Term) → IsTermDue s t → Passes s.division (with_term s t) → IsFinal (PassesNorm t) × IsVerdict s free spare (PassesNorm t)
+  unfolding IsFinal IsVerdict
+  last_norm t due passes = (tt, (due, passes))
+
+  pub last_count : (t : Term) → IsTermDue s t → (Passes s.division (with_term s t) → ⊥) × (length (with_term s t) ≡ quotient_terms_limit) → IsFinal (PassesCount t) × IsVerdict s free spare (PassesCount t)
+  unfolding IsFinal IsVerdict
+  last_count t due passes = (tt, (due, passes.0, passes.1))
+
+-- ---- what is read next
+module _ {M : Type 0} (vector : M → List ℕ) (s : DivideState) where
+  greatest_next : (next : Option (Next M)) → MatchOption next (IsGreatestRead s None) (λ x. IsReadNext vector s x) → IsGreatestRead s (vector_of vector (next_mono next))
+  greatest_next None k = k
+  greatest_next (Some x) k = k.greatest
+
+  pub read_mono : (next : Option (Next M)) (mono : Option M) → mono ≡ next_mono next → MatchOption next (IsGreatestRead s None) (λ x. IsReadNext vector s x) → IsGreatestRead s (vector_of vector mono)
+  read_mono next mono e k = subst (λ (m : Option M). IsGreatestRead s (vector_of vector m)) (sym e) (greatest_next next k)
+
+  pub heard_mono : (mono other : Option M) → mono ≡ other → NoneStuck s (vector_of vector mono) → NoneStuck s (vector_of vector other)
+  heard_mono mono other e = subst (λ (m : Option M). NoneStuck s (vector_of vector m)) e
