@@ -16,11 +16,12 @@ use Rattle.divide_wholes.specs.Row.{RowNote, row_terms}
 use Rattle.divide_wholes.specs.Wholes.{DivideState, divide_start, latest_mark, mark_after}
 use Rattle.divide_wholes.specs.MergeRow.{with_new_row}
 use Rattle.dividing_rounds.specs.Found.{Fits}
-use Rattle.dividing_rounds.specs.Stalls.{IsStuck}
+use Rattle.dividing_rounds.specs.Stalls.{IsStuck, IsLow}
 use Rattle.dividing_rounds.specs.Runs.{DivideRun, RunWhole, run_start, run_row}
 use Rattle.divide_merge.specs.Verdicts.{Verdict, Finishes, HasNone, PassesNorm, PassesCount, IsBlocked, RowIsFull, OutIsFull, IsVerdict, IsFinal, IsPresentAt, IsTermDue, NoneStuck}
 use Rattle.divide_merge.specs.Merges.{free_places}
 use Rattle.canonical_terms.specs.View.{sum_of}
+use Rattle.canonical_terms.specs.declared.term.TermOf.{TermOf}
 use Rattle.std.specs.Option.{IfSome, is_some}
 use Rattle.term_ring.specs.Ends.{taken}
 use Rattle.term_ring.specs.Names.{RingName, notes_count, reader_name, IsReading}
@@ -52,7 +53,7 @@ no_mark = refl
 -- ---- what an answer says of the state it says with a new row
 module _ (s : DivideState) where
   stuck_on : (m : Option (List ℕ)) (w : ℕ) → IsStuck (with_new_row s) m w → IsStuck s m w
-  unfolding with_new_row
+  unfolding with_new_row IsLow
   stuck_on m w k = record { asked = record { worker = k.asked.worker; no_head = k.asked.no_head; rows = k.asked.rows }; waits = k.waits }
 
   fits_on : (x : List ℕ) (u : ℤ) → Fits (with_new_row s) x u → Fits s x u
@@ -207,6 +208,17 @@ module _ {X M E : Type 0} (vector : M → List ℕ) (value : E → ℤ) (belongs
         no_notes v l =
             subst (λ (ns : List Note). IsLatest vector (record { known = 0; top = None }) (latest_mark ns)) (sym (get_or-replicate {A = List Note} (length rs) v [] [] l))
             (subst (IsLatest vector (record { known = 0; top = None })) (sym no_mark) (record { known = refl; top = refl }))
+
+    -- the same, by what the lists hold
+    abbrev with_lists : List (HeadOf M E) → List (Mark M) → List (TermOf M E) → List (TermOf M E) → Held X M E
+    with_lists hs ms found rest = record fresh { heads = hs; marks = ms; found = found; rest = rest }
+
+    module _ (hs : List (HeadOf M E)) (ms : List (Mark M)) (found rest : List (TermOf M E)) (eh : hs ≡ replicate (length rs) head.Missing) (em : ms ≡ replicate (length rs) (record { known = 0; top = None })) (ef : found ≡ []) (er : rest ≡ []) where
+      pub begins_with : IsDivideMerge vector value belongs ord n lim p quotient_room rest_room (with_lists hs ms found rest)
+      begins_with = subst (IsDivideMerge vector value belongs ord n lim p quotient_room rest_room) (sym (λ i. with_lists (eh i) (em i) (ef i) (er i))) begins
+
+      pub run_with : divide_run vector value (with_lists hs ms found rest) ≡ run_start D (length rs)
+      run_with = (λ i. divide_run vector value (with_lists (eh i) (em i) (ef i) (er i))) ∙ fresh_run
 
   -- ---- a new row
   -- a front that was published once is there still, and what the answers say doesn't speak of the row

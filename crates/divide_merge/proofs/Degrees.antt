@@ -64,6 +64,9 @@ module _ (lim : ℕ) (d : Division) (fit : IsFit lim d) where
   unfolding lm times AllDegrees
   products_low G h = pick (quotient_list d) refl
     where
+      nothing_low : (G : List Term) → AllDegrees lim (times [] G)
+      nothing_low G = tt
+
       pick : (Q : List Term) → quotient_list d ≡ Q → AllDegrees lim (times (quotient_list d) G)
       pick [] e = subst (λ (L : List Term). AllDegrees lim (times L G)) (sym e) (nothing_low G)
       pick (t ∷ Q) e =
@@ -74,9 +77,6 @@ module _ (lim : ℕ) (d : Division) (fit : IsFit lim d) where
         where
           first_lead : (t : Term) (Q : List Term) → degree (lm (t ∷ Q)) ≡ degree t.monomial
           first_lead t Q = refl
-
-      nothing_low : (G : List Term) → AllDegrees lim (times [] G)
-      nothing_low G = tt
 
   pub script_low : (W w : ℕ) → AllDegrees lim (script_list (QuotientScript d W w))
   unfolding script_list

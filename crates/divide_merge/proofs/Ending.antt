@@ -21,8 +21,10 @@ use Rattle.divide_wholes.proofs.Candidate.{quotient_poly, finished_is_right}
 use Rattle.divide_core.proofs.DividingSteps.{not_passed}
 use Rattle.dividing_rounds.specs.Stalls.{IsGreatestRead, GoesOn}
 use Rattle.divide_merge.specs.Names.{IsFit}
-use Rattle.divide_merge.specs.Verdicts.{NoneStuck}
-use Rattle.divide_merge.specs.Merges.{IsEnding}
+use Rattle.std.specs.Option.{IfSome}
+use Rattle.divide_merge.specs.Verdicts.{NoneStuck, Verdict, Finishes, IsVerdict, IsFinal}
+use Rattle.divide_merge.specs.Merges.{IsEnding, free_places}
+use Rattle.divide_merge.specs.Inside.{Held, answer_of, divide_state, divide_view, IsDivideMerge}
 use Rattle.dividing_rounds.proofs.StallLemmas.{nobody_stuck}
 use Rattle.divide_merge.proofs.Degrees.{quotient_low, products_low}
 
@@ -53,7 +55,7 @@ degrees_both D [] B a b = b
 degrees_both D (t ∷ A) B a b = (a.0, degrees_both D A B a.1 b)
 
 -- ---- the divisor has a norm
-norm_some : (g : List Term) → (lc g ≢ pos 0) → 1 ≤ norm g
+pub norm_some : (g : List Term) → (lc g ≢ pos 0) → 1 ≤ norm g
 unfolding lc
 norm_some [] n = absurd (n refl)
 norm_some (t ∷ g) n = let c = norm_cons t g in let a = abs_some t.coefficient n in omega arith
@@ -115,3 +117,31 @@ module _ (lim : ℕ) (s : DivideState) (fit : IsFit lim s.division) (whole : Div
       pick : (m : Mode) → d.mode ≡ m → IsCanonical d.ord d.p d.n lim s.r
       pick Exact e = nothing_canonical (subst (λ (m : Mode). RemainderFits m d s.r) e whole.remainder)
       pick Remainder e = rest_canonical (ending.remainder e).remainder ((remainder_unique d fit.accepted e).1 s.q s.r (ending.remainder e)).1
+
+pub ending_as : (d e : Division) (q q' r r' : List Term) → d ≡ e → q' ≡ q → r' ≡ r → IsEnding d q r → IsEnding e q' r'
+ending_as d e q q' r r' i j k x =
+    subst (λ (y : Division). IsEnding y q' r') i (subst (λ (y : List Term). IsEnding d y r') (sym j) (subst (IsEnding d q) (sym k) x))
+
+module _ {X M E : Type 0} (vector : M → List ℕ) (value : E → ℤ) (belongs : ℕ → E → Type 0) (ord : Order) (n lim p quotient_room rest_room : ℕ) where
+  module _ (h : Held X M E) (k : IsDivideMerge vector value belongs ord n lim p quotient_room rest_room h) (e : answer_of vector value h.over ≡ Some Finishes) where
+    abbrev s : DivideState
+    s = divide_state vector value h
+
+    done : IsGreatestRead s None × NoneStuck s None
+    unfolding IsVerdict
+    done = (subst (λ (o : Option Verdict). IfSome o (λ x. IsFinal x × IsVerdict s (free_places (divide_view vector value h)) h.spare x)) e k.cause).1
+
+    placed : (L : List Term) → IsCanonical s.division.ord s.division.p s.division.n lim L → IsCanonical ord p n lim L
+    placed L c =
+        subst (λ (o : Order). IsCanonical o p n lim L) k.made_for.ordered
+        (subst (λ (m : ℕ). IsCanonical s.division.ord p m lim L) k.made_for.variables
+        (subst (λ (i : ℕ). IsCanonical s.division.ord i s.division.n lim L) k.made_for.modulus c))
+
+    pub gives : IsEnding s.division s.q s.r
+    gives = ending lim s k.made_for.fit k.whole.whole done.0 done.1
+
+    pub quotient_is : IsCanonical ord p n lim s.q
+    quotient_is = placed s.q (quotient_canonical lim s k.made_for.fit k.whole.whole done.0 done.1)
+
+    pub remainder_is : IsCanonical ord p n lim s.r
+    remainder_is = placed s.r (remainder_canonical lim s k.made_for.fit k.whole.whole done.0 done.1)

@@ -20,4 +20,8 @@ pub mod LowerLemmas
 pub mod Ending
 pub mod Beginning
 pub mod Following
+pub mod Reserving
+pub mod DivisorLemmas
+pub mod Meeting
+pub mod Adding
 pub mod OneAnswer

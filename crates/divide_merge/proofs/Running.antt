@@ -18,7 +18,7 @@ use Rattle.divide_merge.specs.Merges.{DivideView, free_places, IsSound, IsCause,
 use Rattle.divide_merge.specs.Reached.{DivideReach, divide_reached, Follows, Follows-itself}
 use Rattle.divide_merge.specs.Steps.{Fills, Steady, Answers, GoesFarther, Turns}
 use Rattle.dividing_rounds.proofs.LogLemmas.{counts_fit}
-use Rattle.divide_merge.proofs.Following.{Follows-trans}
+use Rattle.divide_merge.proofs.Following.{row_same, Follows-trans}
 use Rattle.divide_merge.proofs.Filling.{prefix_refl, prefix_trans}
 
 pub Grows-refl : (a : DivideView) → Grows a a
@@ -78,7 +78,7 @@ turns_grows a b o t = record {
   row = t.steady.row;
   start = t.start;
   taken = λ w. subst (λ (ts : List (List Note)). IsPrefix (taken_of a w) (notes_of ts w)) (sym t.taken) (prefix_refl (taken_of a w));
-  notes = t.notes;
+  notes = t.row_grows.notes;
   found = t.found;
   kept = t.kept;
   q = t.q;
@@ -98,6 +98,7 @@ fills_follows lim a b s going f = pick f.counts
         inr (
           s.over ∙ ap (λ (o : Option Verdict). is_some o) going,
           inr (let q = ap (λ (r : DivideRun). length r.state.q) f.run in let x = ap (λ (r : DivideRun). r.fronts_count) f.run in let y = ap (λ (r : DivideRun). r.processed_count) f.run in omega arith),
+          row_same a.run b.run (ap (λ (r : DivideRun). r.notes) f.run) (ap (λ (r : DivideRun). r.state.front) f.run),
         )
 
 -- ---- after some turns
@@ -141,7 +142,7 @@ module _ (lim : ℕ) (a b c d : DivideView) (r : Runs lim a b) (f : Fills b c) (
         follows =
             Follows-trans (divide_reached a) (divide_reached b) (divide_reached d) r.follows
             (Follows-trans (divide_reached b) (divide_reached c) (divide_reached d) filling
-            (inr (s.over ∙ ap (λ (o : Option Verdict). is_some o) fill_going, inr far.farther)));
+            (inr (s.over ∙ ap (λ (o : Option Verdict). is_some o) fill_going, inr far.farther, t.row_grows)));
       }
 
   pub shorter : Turns c d None → IsSound lim d → turns_left d < turns_left b

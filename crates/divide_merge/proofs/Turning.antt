@@ -1,5 +1,5 @@
 -- One turn of an advance: what is read next is processed, or the merge answers.
-use Rattle.std.proofs.Common.{◌≡◌, ◌≢◌, ◌⊎◌, inl, inr, ℕ, ◌+◌, ◌-◌, ◌<◌, ◌≤◌, ℤ, true, false, Bool, true≢false, List, [], ◌∷◌, ◌++◌, length, get_or, Option, Some, None, is_some, refl, sym, ap, ◌∙◌, subst, arith, length-append, append-nil, append_assoc}
+use Rattle.std.proofs.Common.{◌≡◌, ◌≢◌, ◌⊎◌, inl, inr, ℕ, ◌+◌, ◌-◌, ◌<◌, ◌≤◌, ℤ, true, false, Bool, true≢false, List, [], ◌∷◌, ◌++◌, length, get_or, Option, Some, None, MatchOption, is_some, refl, sym, ap, ◌∙◌, subst, arith, length-append, append-nil, append_assoc}
 use Rattle.std.specs.Option.{IfSome}
 use mathlib.Core.List.{IsPrefix}
 use Rattle.sdmp_laws.specs.Order.{Order, Below, IsUnder}
@@ -13,18 +13,24 @@ use Rattle.divide_wholes.specs.Row.{RowNote, RowTerm, RowFront}
 use Rattle.divide_wholes.specs.Wholes.{DivideState, processed, found, kept}
 use Rattle.dividing_rounds.specs.Runs.{DivideRun, run_zero, run_rest, run_found, run_front, run_over}
 use Rattle.dividing_rounds.specs.Rounds.{progress}
-use Rattle.dividing_rounds.specs.Stalls.{IsGreatestRead, IsAsked, IsStuck, IsDue, mark_of, TopWithin}
-use Rattle.divide_merge.specs.Verdicts.{Verdict, Finishes, HasNone, PassesNorm, PassesCount, IsBlocked, RowIsFull, OutIsFull, IsVerdict, IsFinal, kept_of, HoldsUp, IsFirstStuck}
+use Rattle.dividing_rounds.specs.Stalls.{IsGreatestRead, IsAsked, IsStuck, IsLow, IsDue, mark_of, TopWithin}
+use Rattle.divide_merge.specs.Verdicts.{Verdict, Finishes, HasNone, PassesNorm, PassesCount, IsBlocked, RowIsFull, OutIsFull, IsVerdict, IsFinal, kept_of, HoldsUp, IsFirstStuck, NoneStuck, IsTermDue, IsLeftOver, IsTermWithin, with_term}
+use Rattle.sdmp_laws.specs.Limits.{Passes, PassesBound, quotient_terms_limit}
+use Rattle.sdmp_laws.specs.declared.Mode.TheVariants.{Exact, Remainder}
 use Rattle.divide_merge.specs.Merges.{DivideView, IsSound, free_places}
-use Rattle.divide_merge.specs.Reached.{DivideReach, divide_reached, Follows, Follows-itself}
+use Rattle.divide_merge.specs.Reached.{DivideReach, divide_reached, RowGrows, Follows, Follows-itself}
+use Rattle.divide_merge.specs.Inside.{vector_of}
+use Rattle.divide_merge.specs.Reading.{IsReadNext, next_mono}
+use Rattle.divide_merge.specs.declared.mark.Next.{Next}
 use Rattle.divide_merge.specs.Steps.{Steady, PassesOver, FindsTerm, KeepsTerm, PublishesFront, EndsWith, Answers, GoesFarther, Turns}
 use Rattle.dividing_rounds.proofs.RoundLemmas.{progress_rises}
 use Rattle.divide_merge.proofs.OneAnswer.{at_has, at_both}
-use Rattle.divide_merge.proofs.Filling.{prefix_refl}
+use Rattle.divide_merge.proofs.Reserving.{final_anywhere}
+use Rattle.divide_merge.proofs.Following.{RowGrows-refl, row_same, row_longer}
 
 module _ (lim : ℕ) (a b : DivideView) (s : IsSound lim a) (going : a.answer ≡ None) where
   -- it isn't over
-  pub not_over : a.run.over ≡ false
+  not_over : a.run.over ≡ false
   not_over = s.over ∙ ap (λ (o : Option Verdict). is_some o) going
 
   -- ---- a monomial was processed
@@ -36,7 +42,7 @@ module _ (lim : ℕ) (a b : DivideView) (s : IsSound lim a) (going : a.answer �
     division = ap (λ (r : DivideRun). r.state.division) p.run;
     start = ap (λ (r : DivideRun). r.state.start) p.run;
     taken = ap (λ (r : DivideRun). r.state.taken) p.run;
-    notes = subst (λ (r : DivideRun). IsPrefix a.run.notes r.notes) (sym p.run) (prefix_refl a.run.notes);
+    row_grows = row_same a.run b.run (ap (λ (r : DivideRun). r.notes) p.run) (ap (λ (r : DivideRun). r.state.front) p.run);
     found = [];
     kept = [];
     q = ap (λ (r : DivideRun). r.state.q) p.run ∙ sym (append-nil a.run.state.q);
@@ -58,7 +64,7 @@ module _ (lim : ℕ) (a b : DivideView) (s : IsSound lim a) (going : a.answer �
     division = ap (λ (r : DivideRun). r.state.division) p.run;
     start = ap (λ (r : DivideRun). r.state.start) p.run;
     taken = ap (λ (r : DivideRun). r.state.taken) p.run;
-    notes = (RowTerm t ∷ [], sym (ap (λ (r : DivideRun). r.notes) p.run));
+    row_grows = row_longer a.run b.run (RowTerm t) (ap (λ (r : DivideRun). r.notes) p.run);
     found = t ∷ [];
     kept = [];
     q = ap (λ (r : DivideRun). r.state.q) p.run;
@@ -80,7 +86,7 @@ module _ (lim : ℕ) (a b : DivideView) (s : IsSound lim a) (going : a.answer �
     division = ap (λ (r : DivideRun). r.state.division) p.run;
     start = ap (λ (r : DivideRun). r.state.start) p.run;
     taken = ap (λ (r : DivideRun). r.state.taken) p.run;
-    notes = subst (λ (r : DivideRun). IsPrefix a.run.notes r.notes) (sym p.run) (prefix_refl a.run.notes);
+    row_grows = row_same a.run b.run (ap (λ (r : DivideRun). r.notes) p.run) (ap (λ (r : DivideRun). r.state.front) p.run);
     found = [];
     kept = _ ∷ [];
     q = ap (λ (r : DivideRun). r.state.q) p.run ∙ sym (append-nil a.run.state.q);
@@ -103,17 +109,17 @@ module _ (lim : ℕ) (a b : DivideView) (s : IsSound lim a) (going : a.answer �
     division = ap (λ (r : DivideRun). r.state.division) p.run;
     start = ap (λ (r : DivideRun). r.state.start) p.run;
     taken = ap (λ (r : DivideRun). r.state.taken) p.run;
-    notes = subst (λ (r : DivideRun). IsPrefix a.run.notes r.notes) (sym p.run) (prefix_refl a.run.notes);
+    row_grows = row_same a.run b.run (ap (λ (r : DivideRun). r.notes) p.run) (ap (λ (r : DivideRun). r.state.front) p.run);
     found = [];
     kept = [];
     q = ap (λ (r : DivideRun). r.state.q) p.run ∙ sym (append-nil a.run.state.q);
     r = ap (λ (r : DivideRun). r.state.r) p.run ∙ sym (append-nil a.run.state.r);
     spare = let e = p.spare in omega arith;
     ends = record {
-      cause = final_cause x f a.run.state b.run.state (free_places a) (free_places b) a.spare b.spare (ap (λ (r : DivideRun). r.state) p.run) v;
+      cause = subst (λ (u : DivideState). IsVerdict u (free_places b) b.spare x) (sym (ap (λ (r : DivideRun). r.state) p.run)) (final_anywhere x a.run.state _ _ _ _ f v);
       answer = p.answer ∙ sym (final_kept x f);
       heads = ap (λ (r : DivideRun). r.state.heads) p.run;
-      follows = inr (not_over, inl (ap (λ (r : DivideRun). r.over) p.run));
+      follows = inr (not_over, inl (ap (λ (r : DivideRun). r.over) p.run), row_same a.run b.run (ap (λ (r : DivideRun). r.notes) p.run) (ap (λ (r : DivideRun). r.state.front) p.run));
     };
     goes_on = λ e. absurd (true≢false (ap (λ (o : Option Verdict). is_some o) e));
   }
@@ -126,18 +132,6 @@ module _ (lim : ℕ) (a b : DivideView) (s : IsSound lim a) (going : a.answer �
       final_kept (IsBlocked w) f = absurd f
       final_kept RowIsFull f = absurd f
       final_kept OutIsFull f = absurd f
-
-      final_cause : (x : Verdict) → IsFinal x → (s t : DivideState) (i j m n : ℕ) → t ≡ s → IsVerdict s i m x → IsVerdict t j n x
-      final_cause x f s t i j m n e v = subst (λ (u : DivideState). IsVerdict u j n x) (sym e) (other x f v)
-        where
-          other : (x : Verdict) → IsFinal x → IsVerdict s i m x → IsVerdict s j n x
-          other Finishes f v = v
-          other (HasNone y) f v = v
-          other (PassesNorm t) f v = v
-          other (PassesCount t) f v = v
-          other (IsBlocked w) f v = absurd f
-          other RowIsFull f v = absurd f
-          other OutIsFull f v = absurd f
 
 -- ---- a front that is due
 -- what was read, and the tops of the asked workers, are at one bound or below, at which one of them stands
@@ -180,7 +174,7 @@ module _ (lim : ℕ) (a b : DivideView) (s : IsSound lim a) (going : a.answer �
     division = refl;
     start = refl;
     taken = refl;
-    notes = prefix_refl a.run.notes;
+    row_grows = RowGrows-refl a.run;
     found = [];
     kept = [];
     q = sym (append-nil a.run.state.q);
@@ -192,14 +186,14 @@ module _ (lim : ℕ) (a b : DivideView) (s : IsSound lim a) (going : a.answer �
 
   -- a front was published, and a worker is waited for
   pub turns_front : (x : List ℕ) (w : ℕ) → PublishesFront a b x → IsDue a.run.state x → HoldsUp a.run.state w → Turns a b (Some (IsBlocked w))
-  unfolding run_front kept_of IsVerdict IsUnder
+  unfolding run_front kept_of IsVerdict IsUnder IsLow
   turns_front x w p d h = record {
     steady = p.steady;
     workers = ap (λ (r : DivideRun). r.state.workers) p.run;
     division = ap (λ (r : DivideRun). r.state.division) p.run;
     start = ap (λ (r : DivideRun). r.state.start) p.run;
     taken = ap (λ (r : DivideRun). r.state.taken) p.run;
-    notes = (RowFront p.front ∷ [], sym (ap (λ (r : DivideRun). r.notes) p.run));
+    row_grows = row_longer a.run b.run (RowFront p.front) (ap (λ (r : DivideRun). r.notes) p.run);
     found = [];
     kept = [];
     q = ap (λ (r : DivideRun). r.state.q) p.run ∙ sym (append-nil a.run.state.q);
@@ -209,7 +203,7 @@ module _ (lim : ℕ) (a b : DivideView) (s : IsSound lim a) (going : a.answer �
       cause = subst (λ (t : DivideState). IsVerdict t (free_places b) b.spare (IsBlocked w)) (sym (ap (λ (r : DivideRun). r.state) p.run)) (held, none);
       answer = p.answer ∙ going;
       heads = ap (λ (r : DivideRun). r.state.heads) p.run;
-      follows = inr (still, inr (let e = ap progress p.run in let k = (progress_rises a.run).4 p.front in omega arith));
+      follows = inr (still, inr (let e = ap progress p.run in let k = (progress_rises a.run).4 p.front in omega arith), row_longer a.run b.run (RowFront p.front) (ap (λ (r : DivideRun). r.notes) p.run));
     };
     goes_on = λ e. absurd (true≢false (ap (λ (o : Option Verdict). is_some o) e));
   }
@@ -239,3 +233,55 @@ module _ (lim : ℕ) (a b : DivideView) (s : IsSound lim a) (going : a.answer �
           reached : (has z (a.run.state.unread ++ head_terms a.run.state.heads) ≡ true) ⊎ ((v : ℕ) × IsAsked (record a.run.state { front = Some p.front }) v × ((mark_of a.run.state v).1 ≡ Some z)) → (has z (a.run.state.unread ++ head_terms a.run.state.heads) ≡ true) ⊎ ((v : ℕ) × IsAsked a.run.state v × ((mark_of a.run.state v).1 ≡ Some z))
           reached (inl i) = inl i
           reached (inr v) = inr (v.0, asked v.0 v.1, v.2)
+
+  -- ---- answers where nothing was done
+  pub same_blocked : (w : ℕ) (m : Option (List ℕ)) → IsGreatestRead a.run.state m → IsFirstStuck a.run.state m w → ((x : List ℕ) → IsDue a.run.state x → ⊥) → b ≡ a → Turns a b (Some (IsBlocked w))
+  unfolding kept_of IsVerdict
+  same_blocked w m read first none e = turns_same (IsBlocked w) e refl (record { next = m; read = read; first = first }, none)
+
+  pub same_row_front : (w : ℕ) (m : Option (List ℕ)) (x : List ℕ) → IsGreatestRead a.run.state m → IsFirstStuck a.run.state m w → IsDue a.run.state x → free_places a ≡ 0 → b ≡ a → Turns a b (Some RowIsFull)
+  unfolding kept_of IsVerdict
+  same_row_front w m x read first due free e =
+      turns_same RowIsFull e refl (free, inl (record { worker = w; held = record { next = m; read = read; first = first }; bound = x; due = due }))
+
+  pub same_row_term : (t : Term) → IsTermDue a.run.state t → (PassesBound a.run.state.division (with_term a.run.state t) → ⊥) → free_places a ≡ 0 → b ≡ a → Turns a b (Some RowIsFull)
+  unfolding kept_of IsVerdict
+  same_row_term t due within free e = turns_same RowIsFull e refl (free, inr (t, record { due = due; within = within }))
+
+  pub same_out_term : (t : Term) → IsTermDue a.run.state t → (PassesBound a.run.state.division (with_term a.run.state t) → ⊥) → 0 < free_places a → a.spare ≡ 0 → b ≡ a → Turns a b (Some OutIsFull)
+  unfolding kept_of IsVerdict
+  same_out_term t due within free spare e = turns_same OutIsFull e refl (spare, inl (t, record { due = due; within = within }, free))
+
+  pub same_out_rest : (x : List ℕ) → a.run.state.division.mode ≡ Remainder → IsLeftOver a.run.state x → a.spare ≡ 0 → b ≡ a → Turns a b (Some OutIsFull)
+  unfolding kept_of IsVerdict
+  same_out_rest x mode left spare e = turns_same OutIsFull e refl (spare, inr (mode, (x, left)))
+
+-- ---- last answers
+module _ (s : DivideState) (free spare : ℕ) where
+  pub last_finished : IsGreatestRead s None → NoneStuck s None → IsFinal Finishes × IsVerdict s free spare Finishes
+  unfolding IsFinal IsVerdict
+  last_finished read heard = (tt, (read, heard))
+
+  pub last_none : (x : List ℕ) → s.division.mode ≡ Exact → IsLeftOver s x → IsFinal (HasNone x) × IsVerdict s free spare (HasNone x)
+  unfolding IsFinal IsVerdict
+  last_none x mode left = (tt, (mode, left))
+
+  pub last_norm : (t : Term) → IsTermDue s t → Passes s.division (with_term s t) → IsFinal (PassesNorm t) × IsVerdict s free spare (PassesNorm t)
+  unfolding IsFinal IsVerdict
+  last_norm t due passes = (tt, (due, passes))
+
+  pub last_count : (t : Term) → IsTermDue s t → (Passes s.division (with_term s t) → ⊥) × (length (with_term s t) ≡ quotient_terms_limit) → IsFinal (PassesCount t) × IsVerdict s free spare (PassesCount t)
+  unfolding IsFinal IsVerdict
+  last_count t due passes = (tt, (due, passes.0, passes.1))
+
+-- ---- what is read next
+module _ {M : Type 0} (vector : M → List ℕ) (s : DivideState) where
+  greatest_next : (next : Option (Next M)) → MatchOption next (IsGreatestRead s None) (λ x. IsReadNext vector s x) → IsGreatestRead s (vector_of vector (next_mono next))
+  greatest_next None k = k
+  greatest_next (Some x) k = k.greatest
+
+  pub read_mono : (next : Option (Next M)) (mono : Option M) → mono ≡ next_mono next → MatchOption next (IsGreatestRead s None) (λ x. IsReadNext vector s x) → IsGreatestRead s (vector_of vector mono)
+  read_mono next mono e k = subst (λ (m : Option M). IsGreatestRead s (vector_of vector m)) (sym e) (greatest_next next k)
+
+  pub heard_mono : (mono other : Option M) → mono ≡ other → NoneStuck s (vector_of vector mono) → NoneStuck s (vector_of vector other)
+  heard_mono mono other e = subst (λ (m : Option M). NoneStuck s (vector_of vector m)) e

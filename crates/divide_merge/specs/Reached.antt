@@ -1,5 +1,6 @@
 -- The name of a merge of a division, and how far it has come.
-use Rattle.std.specs.Prelude.{◌≡◌, ◌⊎◌, ℕ, ◌<◌, true, false, List, Option}
+use Rattle.std.specs.Prelude.{◌≡◌, ◌⊎◌, ℕ, ◌<◌, true, false, List, [], Option}
+use mathlib.Core.List.{IsPrefix}
 use Rattle.std.proofs.Common.{inl, refl}
 use Rattle.term_ring.specs.Names.{RingName}
 use Rattle.divide_merge.specs.Names.{RowIdentity}
@@ -25,9 +26,14 @@ pub record DivideReach : Type 0 where
 abbrev pub divide_reached : DivideView → DivideReach
 divide_reached v = record { run = v.run; answer = v.answer; spare = v.spare }
 
--- b is a; or a wasn't over, and b is, or has come farther
+-- b has the notes of a's row, and perhaps more; while the row has none, the front is still that of a
+pub record RowGrows (a b : DivideRun) : Type 0 where
+  pub notes : IsPrefix a.notes b.notes
+  pub front : b.notes ≡ [] → b.state.front ≡ a.state.front
+
+-- b is a; or a wasn't over, and b is, or has come farther, in the same row
 abbrev pub Follows : DivideReach → DivideReach → Type 0
-Follows a b = (b ≡ a) ⊎ ((a.run.over ≡ false) × ((b.run.over ≡ true) ⊎ (progress a.run < progress b.run)))
+Follows a b = (b ≡ a) ⊎ ((a.run.over ≡ false) × ((b.run.over ≡ true) ⊎ (progress a.run < progress b.run)) × RowGrows a.run b.run)
 
 pub Follows-itself : (a : DivideReach) → Follows a a
 Follows-itself a = inl refl

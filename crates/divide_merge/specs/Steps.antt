@@ -12,7 +12,7 @@ use Rattle.dividing_rounds.specs.Rounds.{progress}
 use Rattle.term_ring.specs.Names.{NoneBelow, notes_count}
 use Rattle.divide_merge.specs.Verdicts.{Verdict, IsVerdict, IsFinal, kept_of}
 use Rattle.divide_merge.specs.Merges.{DivideView, taken_of, free_places, IsStarved, FoundEmpty}
-use Rattle.divide_merge.specs.Reached.{divide_reached, Follows}
+use Rattle.divide_merge.specs.Reached.{divide_reached, RowGrows, Follows}
 
 -- the reader of w looked for a note
 pub record Looks (a b : DivideView) (w : ℕ) : Type 0 where
@@ -116,7 +116,7 @@ pub record Turns (a b : DivideView) (x : Option Verdict) : Type 0 where
   pub division : b.run.state.division ≡ a.run.state.division
   pub start : b.run.state.start ≡ a.run.state.start
   pub taken : b.run.state.taken ≡ a.run.state.taken
-  pub notes : IsPrefix a.run.notes b.run.notes
+  pub row_grows : RowGrows a.run b.run
   pub found : List Term
   pub kept : List Term
   pub q : b.run.state.q ≡ a.run.state.q ++ found

@@ -1,5 +1,6 @@
 //! What a merge keeps of its division.
 ghost use Rattle.std.specs.Prelude.{◌≡◌};
+ghost use Rattle.sdmp_laws.specs.Canonical.{IsCanonical};
 ghost use Rattle.sdmp_laws.specs.Division.{IsAccepted};
 ghost use Rattle.division_laws.specs.Outcome.{division_of};
 ghost use Rattle.divide_merge.specs.Divisors.{IsDivisor};
@@ -27,7 +28,8 @@ pub(crate) fn divisor_of<R: CoeffRing, M: Monomial>(
 ) -> Divisor<M, R::E>
     requires moduli { f.now.modulus ≡ g.now.modulus }
     requires accepted { IsAccepted (division_of mode M.order M.VARS f.now g.now) }
-    ensures { IsDivisor M.vector R.value (R.belongs g.now.modulus) M.LIM (division_of mode M.order M.VARS f.now g.now) result }
+    ensures canonical { IsCanonical M.order g.now.modulus M.VARS M.LIM g.now.list }
+    ensures kept { IsDivisor M.vector R.value (R.belongs g.now.modulus) M.LIM (division_of mode M.order M.VARS f.now g.now) result }
 {
     let ring = g.ring();
     let terms = g.terms();

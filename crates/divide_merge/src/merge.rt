@@ -1,5 +1,5 @@
 //! The merge of a division.
-ghost use Rattle.std.specs.Prelude.{◌≡◌, ◌≢◌, ◌+◌, ◌≤◌, ◌++◌, ◌↔◌, [], length, min, OnOk, OnErr, IsTrue, Some, None, List};
+ghost use Rattle.std.specs.Prelude.{◌≡◌, ◌≢◌, ◌+◌, ◌≤◌, ◌++◌, ◌↔◌, [], length, min, OnOk, OnErr, IsTrue, Some, None, List, All};
 ghost use Rattle.sdmp_laws.specs.Poly.{Term as PlainTerm};
 ghost use Rattle.sdmp_laws.specs.LongDivision.{quotient_list};
 ghost use Rattle.canonical_terms.specs.View.{sum_of};
@@ -135,7 +135,8 @@ impl<R: CoeffRing, M: Monomial> DivideMerge<R, M> {
 
     /// The terms of the quotient that are found.
     pub fn quotient(&self) -> &[Term<R, M>]
-        ensures { sum_of M.vector R.value result.now ≡ self.now.run.state.q }
+        ensures terms { sum_of M.vector R.value result.now ≡ self.now.run.state.q }
+        ensures belongs { All (λ t. R.belongs self.now.run.state.division.p t.coef) result.now }
     {
         &self.q
     }
