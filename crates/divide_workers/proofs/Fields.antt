@@ -1,5 +1,5 @@
 -- The fields of a dividing worker, and what it sees of itself, at each of its steps.
-use Rattle.std.proofs.Common.{◌≡◌, ◌≢◌, ◌⊎◌, inl, inr, ℕ, ◌+◌, ◌*◌, ◌<◌, ◌≤◌, Bool, true, false, true≢false, IsTrue, ◌↔◌, ℤ, pos, cond, List, [], ◌∷◌, ◌++◌, length, max, Option, Some, None, MatchOption, refl, sym, ap, ◌∙◌, subst, arith, All, IsPermutation, append-nil, length-append}
+use Rattle.std.proofs.Common.{◌≡◌, ◌≢◌, ◌⊎◌, inl, inr, ℕ, ◌+◌, ◌*◌, ◌<◌, ◌≤◌, Bool, true, false, true≢false, IsTrue, ◌↔◌, ℤ, pos, cond, List, [], ◌∷◌, ◌++◌, length, max, Option, Some, None, Result, Ok, Err, IfErr, MatchOption, refl, sym, ap, ◌∙◌, subst, arith, All, IsPermutation, append-nil, length-append}
 use Rattle.std.specs.List.{Contains}
 use Rattle.std.proofs.lemmas.List.Elements.{All-nil, All-cons, All-head, All-tail, All-weaker, All-contains}
 use Rattle.std.proofs.lemmas.List.Sorted.{All-permutation, IsPermutation-sym, length_permutation}
@@ -45,7 +45,7 @@ use Rattle.divide_workers.specs.Paying.{HasRows}
 use Rattle.divide_workers.specs.Views.{WorkerView, script_workers}
 use Rattle.divide_workers.specs.Working.{IsWorking, HasRoom}
 use Rattle.divide_workers.specs.Inside.{view_of, mark_of, kept_terms, KeptBelongs, IsSender}
-use Rattle.divide_workers.specs.Steps.{Works, HandsOut, MayHand, IsMarkOf, Pushes, Refuses, LearnsMore, IsNextTerm, IsFrontOf}
+use Rattle.divide_workers.specs.Steps.{Works, HandsOut, IsFrontier, MayHand, IsMarkOf, Pushes, Refuses, LearnsMore, IsNextTerm, IsFrontOf}
 use Rattle.divide_workers.specs.Learning.{Learns}
 use Rattle.divide_workers.specs.declared.front.Front.{Front}
 use Rattle.divide_workers.specs.declared.mark.Mark.{Mark}
@@ -53,7 +53,7 @@ use Rattle.divide_workers.proofs.Falling.{IsFrontVector, falls_itself}
 use Rattle.divide_workers.proofs.Ahead.{quotient_low}
 use Rattle.divide_workers.proofs.Stepping.{Hears, front_of_term, learns, takes_front, ends_change, hands_out, sends_term, may_send_term, sends_mark, may_send_mark}
 use Rattle.divide_workers.proofs.Paying.{one_top, mark_at_term, mark_at_mark, some_length}
-use Rattle.divide_workers.proofs.Working.{works_itself}
+use Rattle.divide_workers.proofs.Working.{works_itself, works_again}
 
 -- ---- a term that may be learned
 -- the rows may learn the next quotient term
@@ -89,6 +89,26 @@ ahead_of_news v m h later e = h later e
 pub lowered_none : (ord : Order) (a : Option (List ℕ)) → IsLowered ord a None
 unfolding IsLowered
 lowered_none ord a = tt
+
+pub if_err : {A E : Type 0} (r : Result A E) (P : Type 0) → P → IfErr r (λ x. P)
+if_err (Ok a) P h = tt
+if_err (Err e) P h = h
+
+-- products were handed out, and then again
+pub hands_itself : (lim : ℕ) (v : WorkerView) → IsWorking lim v → HandsOut v v
+hands_itself lim v w = record { works = works_itself lim v w; same = refl; less = omega arith }
+
+pub hands_again : (a b c : WorkerView) → HandsOut a b → HandsOut b c → HandsOut a c
+hands_again a b c f g = record {
+  works = works_again a b c f.works g.works;
+  same = g.same ∙ ap (λ (v : WorkerView). record v { state = record v.state { unread = c.state.unread; kept = c.state.kept } }) f.same;
+  less = let x = f.less in let y = g.less in omega (arith, x, y);
+}
+
+-- the front and the first row stay
+pub frontier_stays : (a b : WorkerView) (f : PlainFront) → HandsOut a b → IsFrontier a (Some f) → IsFrontier b (Some f)
+unfolding IsFrontier worker_rows
+frontier_stays a b f h k = subst (λ (v : WorkerView). IsFrontier v (Some f)) (sym h.same) (k.0, k.1, k.2, k.3)
 
 -- nothing but its products and the term that it keeps changed
 pub hands_works : (lim : ℕ) (v : WorkerView) (unread kept : List Term) → IsWorking lim v → Works v (record v { state = record v.state { unread = unread; kept = kept } })
