@@ -1,5 +1,5 @@
 -- The fields of a dividing worker, and what it sees of itself, at each of its steps.
-use Rattle.std.proofs.Common.{◌≡◌, ◌≢◌, ◌⊎◌, inl, inr, ℕ, ◌+◌, ◌*◌, ◌<◌, ◌≤◌, Bool, true, false, true≢false, IsTrue, ◌↔◌, ℤ, pos, cond, List, [], ◌∷◌, ◌++◌, length, max, Option, Some, None, Result, Ok, Err, IfErr, MatchOption, refl, sym, ap, ◌∙◌, subst, arith, All, IsPermutation, append-nil, length-append}
+use Rattle.std.proofs.Common.{◌≡◌, ◌≢◌, ◌⊎◌, inl, inr, ℕ, ◌+◌, ◌*◌, ◌<◌, ◌≤◌, Bool, true, false, true≢false, IsTrue, ◌↔◌, ℤ, pos, cond, List, [], ◌∷◌, ◌++◌, get_or, length, max, Option, Some, None, Result, Ok, Err, IfErr, MatchOption, refl, sym, ap, ◌∙◌, subst, arith, All, IsPermutation, append-nil, length-append}
 use Rattle.std.specs.List.{Contains}
 use Rattle.std.proofs.lemmas.List.Elements.{All-nil, All-cons, All-head, All-tail, All-weaker, All-contains}
 use Rattle.std.proofs.lemmas.List.Sorted.{All-permutation, IsPermutation-sym, length_permutation}
@@ -14,21 +14,23 @@ use Rattle.sdmp_laws.proofs.OrderLemmas.{order_facts, alike_self, length_times}
 use Rattle.sdmp_laws.proofs.Tests.{or_in_left, or_in_right}
 use Rattle.sdmp_laws.proofs.ListLemmas.{All-front, All-back, each_below}
 use Rattle.sdmp_laws.proofs.TermsLemmas.{is_zero_yes}
-use Rattle.whole_laws.specs.Notes.{Note, TermNote, MarkNote, Script, MayFollow, Carry, has, divisor_rows}
+use Rattle.whole_laws.specs.Notes.{Note, TermNote, MarkNote, Script, QuotientScript, MayFollow, Carry, has, divisor_rows}
 use Rattle.whole_laws.proofs.NotesLemmas.{Carry-push}
+use Rattle.sdmp_laws.proofs.Parts.{norm_nil}
 use Rattle.sdmp_laws.proofs.Merging.{Decreasing-front}
-use Rattle.divide_wholes.specs.Wholes.{latest_mark}
-use Rattle.divide_wholes.specs.Row.{row_terms}
+use Rattle.divide_wholes.specs.Wholes.{latest_mark, mark_after}
+use Rattle.divide_wholes.specs.Row.{RowNote, RowCarryAfter, row_terms, front_after}
 use Rattle.divide_wholes.specs.Workers.{WorkerState, IsUnreadTop, worker_rows, worker_script, sum_at}
+use Rattle.divide_wholes.proofs.MarkLemmas.{worker_start}
 use Rattle.divide_wholes.proofs.Candidate.{quotient_poly}
 use Rattle.divide_core.proofs.DividingSteps.{not_passed}
 use Rattle.row_merge.specs.Learned.{QuotientState, IsGreatest, TakesOut, HandOut}
 use Rattle.row_merge.proofs.LearnedRows.{lead_degree}
-use Rattle.canonical_terms.specs.View.{term_of}
+use Rattle.canonical_terms.specs.View.{term_of, sum_of}
 use Rattle.canonical_terms.specs.declared.term.TermOf.{TermOf}
 use Rattle.dividing_rounds.specs.Stalls.{IsLowered}
 use Rattle.dividing_rounds.proofs.WorkloadLemmas.{has_nothing}
-use Rattle.divide_merge.specs.Names.{script_division}
+use Rattle.divide_merge.specs.Names.{RowIdentity, IsFit, IsLooking, script_division, reader_row}
 use Rattle.term_ring.specs.Plain.{modulus_of}
 use Rattle.term_ring.specs.Rule.{LeavesNoRoom}
 use Rattle.term_ring.specs.Spelling.{note_of, notes_of}
@@ -39,6 +41,9 @@ use Rattle.term_ring.specs.declared.ring.Ring.{Ring}
 use Rattle.term_ring.specs.Ends.{script_in, sent, head_seen, full_looks, IsWriterOf}
 use Rattle.term_ring.specs.Names.{RingName, ring_name, writer_name, IsWriting}
 use Rattle.term_ring.specs.declared.ring.Writer.{Writer}
+use Rattle.quotient_row.specs.Ends.{IsNew, known, count_seen, count_loads, told_published}
+use Rattle.quotient_row.specs.Spelling.{notes_of as row_notes_of}
+use Rattle.quotient_row.specs.declared.note.RowNoteOf.{RowNoteOf}
 use Rattle.quotient_row.specs.declared.row.RowReader.{RowReader}
 use Rattle.divide_workers.specs.Fronts.{PlainFront, front_of, plain_front, vector_of, IsPastBy, UnderBy, IsAhead, IsPast, FrontFalls}
 use Rattle.divide_workers.specs.Paying.{HasRows}
@@ -52,7 +57,7 @@ use Rattle.divide_workers.specs.declared.mark.Mark.{Mark}
 use Rattle.divide_workers.proofs.Falling.{IsFrontVector, falls_itself}
 use Rattle.divide_workers.proofs.Ahead.{quotient_low}
 use Rattle.divide_workers.proofs.Stepping.{Hears, front_of_term, learns, takes_front, ends_change, hands_out, sends_term, may_send_term, sends_mark, may_send_mark}
-use Rattle.divide_workers.proofs.Paying.{one_top, mark_at_term, mark_at_mark, some_length}
+use Rattle.divide_workers.proofs.Paying.{start_pays, one_top, mark_at_term, mark_at_mark, some_length}
 use Rattle.divide_workers.proofs.Working.{works_itself, works_again}
 
 -- ---- a term that may be learned
@@ -109,6 +114,10 @@ hands_again a b c f g = record {
 pub frontier_stays : (a b : WorkerView) (f : PlainFront) → HandsOut a b → IsFrontier a (Some f) → IsFrontier b (Some f)
 unfolding IsFrontier worker_rows
 frontier_stays a b f h k = subst (λ (v : WorkerView). IsFrontier v (Some f)) (sym h.same) (k.0, k.1, k.2, k.3)
+
+pub frontier_again : {M : Type 0} (vector : M → List ℕ) (o : Option (Front M)) (a b : WorkerView) → o ≢ None → HandsOut a b → IsFrontier a (plain_front vector o) → IsFrontier b (plain_front vector o)
+frontier_again vector None a b n h k = absurd (n refl)
+frontier_again vector (Some f) a b n h k = frontier_stays a b (front_of vector f) h k
 
 -- nothing but its products and the term that it keeps changed
 pub hands_works : (lim : ℕ) (v : WorkerView) (unread kept : List Term) → IsWorking lim v → Works v (record v { state = record v.state { unread = unread; kept = kept } })
@@ -189,6 +198,91 @@ kept_other t n = pick (is_zero t.coefficient) refl
     pick : (b : Bool) → is_zero t.coefficient ≡ b → t ∷ [] ≡ cond b [] (t ∷ [])
     pick true e = absurd (n (is_zero_yes t.coefficient e))
     pick false e = refl
+
+-- ---- a worker at first
+none_passes : (lim : ℕ) (d : Division) → IsFit lim d → PassesBound d [] → ⊥
+none_passes lim d f (inl h) = let k = f.dividend.norm_fits h.integers in let o = h.over in let z = norm_nil in omega (arith, k, o, ap (λ (m : ℕ). m * norm d.g) z)
+none_passes lim d f (inr h) = omega (arith, h)
+
+works_first : (lim W w : ℕ) (ring : RingName) (head looks : ℕ) (row : RowIdentity) (count loads : ℕ) (told : List RowNote) (spare : ℕ) → IsFit lim row.name.division → ring.script ≡ QuotientScript row.name.division W w → row.name.start ≡ 0
+    → IsWorking lim (record {
+      state = record { division = row.name.division; workers = W; worker = w; known = []; unread = []; kept = []; sent = [] };
+      ring = ring;
+      head = head;
+      full_looks = looks;
+      row = row;
+      notes = [];
+      count = count;
+      loads = loads;
+      told = told;
+      front = None;
+      spare = spare;
+    })
+unfolding worker_script RowCarryAfter IsLowered front_after row_terms
+works_first lim W w ring head looks row count loads told spare fit script start = record {
+  whole = worker_start row.name.division W w;
+  fit = fit;
+  script = script;
+  row_division = refl;
+  within = none_passes lim row.name.division fit;
+  ahead = λ later e. tt;
+  carried = tt;
+  lowest = tt;
+  fronted = λ n e. n refl;
+  enough = λ r. omega (arith, start);
+  paid = start_pays row.name.division W w;
+}
+
+pub divisor_some : (lim : ℕ) (d : Division) → IsFit lim d → d.g ≢ []
+divisor_some lim d f = f.accepted.nonzero
+
+pub lead_first : {M E : Type 0} (vector : M → List ℕ) (value : E → ℤ) (ts : List (TermOf M E)) (d : TermOf M E) → sum_of vector value ts ≢ [] → vector (get_or ts 0 d).mono ≡ lm (sum_of vector value ts)
+unfolding lm
+lead_first vector value [] d n = absurd (n refl)
+lead_first vector value (t ∷ ts) d n = refl
+
+module _ {X M E : Type 0} (vector : M → List ℕ) (value : E → ℤ) (belongs : ℕ → E → Type 0) (ord : Order) (n lim p worker : ℕ) (rows : QuotientState) (writer : Writer X M E) (reader : RowReader X M E) (lead : M) (marked : Mark M) where
+  pub begins : IsWriting writer → IsLooking reader → (writer_name writer).script ≡ QuotientScript (reader_row reader).name.division (script_workers (writer_name writer).script) worker → IsFit lim (reader_row reader).name.division → (reader_row reader).name.division.ord ≡ ord
+      → (reader_row reader).name.division.n ≡ n → rows.modulus ≡ (reader_row reader).name.division.p → rows.divisor ≡ (reader_row reader).name.division.g → rows.rows ≡ divisor_rows rows.divisor (script_workers (writer_name writer).script) worker → (reader_row reader).name.start ≡ 0
+      → (rows.learned ≡ []) × (rows.unread ≡ []) → sent writer ≡ [] → IsNew reader → p ≡ rows.modulus → vector lead ≡ lm (reader_row reader).name.division.g → mark_of vector marked ≡ (0, None)
+      → IsSender vector value belongs ord n lim p worker rows writer reader lead 0 None None marked
+  unfolding worker_rows row_terms latest_mark mark_after
+  begins writing looking script fit order variables modulus divisor are start none nothing fresh same lead_is mark = record {
+    working = subst (IsWorking lim) path (works_first lim (script_workers (writer_name writer).script) worker (writer_name writer) (head_seen writer) (full_looks writer) (reader_row reader) (count_seen reader) (count_loads reader) (row_notes_of vector value (told_published reader)) rows.spare fit script start);
+    writing = writing;
+    looking = looking;
+    ordered = ap (λ (d : Division). d.ord) division ∙ order;
+    variables = ap (λ (d : Division). d.n) division ∙ variables;
+    modulus = sym same;
+    characteristic = ap (λ (d : Division). d.p) division ∙ sym modulus ∙ sym same;
+    divisor = divisor ∙ ap (λ (d : Division). d.g) (sym division);
+    rows_are = are ∙ ap (λ (G : List Term). divisor_rows G (script_workers (writer_name writer).script) worker) (divisor ∙ ap (λ (d : Division). d.g) (sym division));
+    lead_is = lead_is ∙ ap (λ (d : Division). lm d.g) (sym division);
+    place_is = sym (ap (λ (k : ℕ). k + length (row_terms (row_notes_of vector value (known reader)))) start ∙ ap (λ (x : List (RowNoteOf M E)). length (row_terms (row_notes_of vector value x))) fresh.0);
+    mark_is = mark ∙ ap (λ (x : List (NoteOf M E)). latest_mark (notes_of vector value x)) (sym nothing);
+    kept_belongs = tt;
+  }
+    where
+      division : script_division (writer_name writer).script ≡ (reader_row reader).name.division
+      division = ap script_division script
+
+      path : record {
+        state = record { division = (reader_row reader).name.division; workers = script_workers (writer_name writer).script; worker = worker; known = []; unread = []; kept = []; sent = [] };
+        ring = writer_name writer;
+        head = head_seen writer;
+        full_looks = full_looks writer;
+        row = reader_row reader;
+        notes = [];
+        count = count_seen reader;
+        loads = count_loads reader;
+        told = row_notes_of vector value (told_published reader);
+        front = None;
+        spare = rows.spare;
+      } ≡ view_of vector value worker rows writer reader None None
+      path = λ i. record (view_of vector value worker rows writer reader None None) {
+        state = record { division = sym division i; workers = script_workers (writer_name writer).script; worker = worker; known = sym none.0 i; unread = sym none.1 i; kept = []; sent = notes_of vector value (sym nothing i) };
+        notes = row_notes_of vector value (sym fresh.0 i);
+      }
 
 -- ---- the fields
 module _ {X M E : Type 0} (vector : M → List ℕ) (value : E → ℤ) (belongs : ℕ → E → Type 0) (ord : Order) (n lim p worker : ℕ) (vars : (m : M) → length (vector m) ≡ n) (rows : QuotientState) (writer : Writer X M E) (reader : RowReader X M E) (lead : M) (place : ℕ) (front : Option (Front M)) (kept : Option (TermOf M E)) (marked : Mark M) (s : IsSender vector value belongs ord n lim p worker rows writer reader lead place front kept marked) where

@@ -73,6 +73,7 @@ impl<R: CoeffRing, M: Monomial> Sender<'_, R, M> {
         ensures kept { IsTrue result → self.new.state.kept ≢ [] }
         ensures held { result ≡ false → HoldsBack self.new }
     {
+        self.whole();
         loop {
             if self.kept.is_some() {
                 return true;
