@@ -1,5 +1,5 @@
 -- The fields of a dividing worker, and what it sees of itself, at each of its steps.
-use Rattle.std.proofs.Common.{◌≡◌, ◌≢◌, ◌⊎◌, inl, inr, ℕ, ◌+◌, ◌*◌, ◌<◌, ◌≤◌, Bool, true, false, true≢false, IsTrue, ◌↔◌, ℤ, pos, cond, List, [], ◌∷◌, ◌++◌, get_or, length, max, Option, Some, None, Result, Ok, Err, IfErr, MatchOption, refl, sym, ap, ◌∙◌, subst, arith, All, IsPermutation, append-nil, length-append}
+use Rattle.std.proofs.Common.{◌≡◌, ◌≢◌, ◌⊎◌, inl, inr, ℕ, ◌+◌, ◌*◌, ◌<◌, ◌≤◌, Bool, true, false, true≢false, IsTrue, ◌↔◌, ℤ, pos, cond, List, [], ◌∷◌, ◌++◌, get_or, length, max, Option, Some, None, Result, Ok, Err, IfErr, MatchOption, refl, sym, ap, ◌∙◌, subst, arith, All, IsPermutation, append-nil, append_assoc, length-append}
 use Rattle.std.specs.List.{Contains}
 use Rattle.std.proofs.lemmas.List.Elements.{All-nil, All-cons, All-head, All-tail, All-weaker, All-contains}
 use Rattle.std.proofs.lemmas.List.Sorted.{All-permutation, IsPermutation-sym, length_permutation}
@@ -17,6 +17,7 @@ use Rattle.sdmp_laws.proofs.TermsLemmas.{is_zero_yes}
 use Rattle.whole_laws.specs.Notes.{Note, TermNote, MarkNote, Script, QuotientScript, MayFollow, Carry, has, divisor_rows}
 use Rattle.whole_laws.proofs.NotesLemmas.{Carry-push}
 use Rattle.sdmp_laws.proofs.Parts.{norm_nil}
+use Rattle.sdmp_laws.proofs.PlaceLemmas.{passes_grows}
 use Rattle.sdmp_laws.proofs.Merging.{Decreasing-front}
 use Rattle.divide_wholes.specs.Wholes.{latest_mark, mark_after}
 use Rattle.divide_wholes.specs.Row.{RowNote, RowCarryAfter, row_terms, front_after}
@@ -50,11 +51,11 @@ use Rattle.divide_workers.specs.Paying.{HasRows}
 use Rattle.divide_workers.specs.Views.{WorkerView, script_workers}
 use Rattle.divide_workers.specs.Working.{IsWorking, HasRoom}
 use Rattle.divide_workers.specs.Inside.{view_of, mark_of, kept_terms, KeptBelongs, IsSender}
-use Rattle.divide_workers.specs.Steps.{Works, HandsOut, IsFrontier, MayHand, IsMarkOf, Pushes, Refuses, LearnsMore, IsNextTerm, IsFrontOf}
+use Rattle.divide_workers.specs.Steps.{Works, HandsOut, IsFrontier, MayHand, IsMarkOf, Pushes, Refuses, LearnsMore, IsNextTerm, IsBegun, IsFrontOf}
 use Rattle.divide_workers.specs.Learning.{Learns}
 use Rattle.divide_workers.specs.declared.front.Front.{Front}
 use Rattle.divide_workers.specs.declared.mark.Mark.{Mark}
-use Rattle.divide_workers.proofs.Falling.{IsFrontVector, falls_itself}
+use Rattle.divide_workers.proofs.Falling.{IsFrontVector, falls_itself, falls_again}
 use Rattle.divide_workers.proofs.Ahead.{quotient_low}
 use Rattle.divide_workers.proofs.Stepping.{Hears, front_of_term, learns, takes_front, ends_change, hands_out, sends_term, may_send_term, sends_mark, may_send_mark}
 use Rattle.divide_workers.proofs.Paying.{start_pays, one_top, mark_at_term, mark_at_mark, some_length}
@@ -78,6 +79,9 @@ next_low lim v t w next =
 pub next_fits : (v : WorkerView) (t : Term) → IsNextTerm v.state t → v.state.division.p ≡ 0 → norm (v.state.known ++ t ∷ []) * norm v.state.division.g ≤ greatest_norm
 next_fits v t next z = let k = not_passed v.state.division (v.state.known ++ t ∷ []) z next.within in omega (arith, k)
 
+passes_more : (d : Division) (a b : List Term) → IsPrefix a b → PassesBound d a → PassesBound d b
+passes_more d a b i h = passes_grows d a b i h
+
 -- ---- what stays of `Works`
 -- its front alone fell, or nothing changed
 pub takes_lower : (v : WorkerView) (front : PlainFront) → FrontFalls v.state.division.ord v.front (Some front) → LearnsMore v (record v { front = Some front })
@@ -85,6 +89,33 @@ takes_lower v front falls = record { same = refl; known = ([], append-nil v.stat
 
 pub learns_none : (v : WorkerView) → LearnsMore v v
 learns_none v = record { same = refl; known = ([], append-nil v.state.known); spare = refl; falls = falls_itself v.state.division.ord v.front }
+
+pub learns_again : (a b c : WorkerView) → LearnsMore a b → LearnsMore b c → LearnsMore a c
+learns_again a b c f g = record {
+  same = g.same ∙ ap (λ (v : WorkerView). record v { state = record v.state { known = c.state.known; unread = c.state.unread }; front = c.front; spare = c.spare }) f.same;
+  known = (f.known.0 ++ g.known.0, sym (append_assoc a.state.known f.known.0 g.known.0) ∙ (ap (λ (l : List Term). l ++ g.known.0) f.known.1 ∙ g.known.1));
+  spare = f.spare ∙ g.spare;
+  falls = falls_again a.state.division.ord a.front b.front c.front f.falls (subst (λ (v : WorkerView). FrontFalls v.state.division.ord b.front c.front) f.same g.falls);
+}
+
+-- the term after those that are known, in a longer list that begins as they do
+begins_next : {A : Type 0} (known q Q : List A) (d : A) → IsPrefix known Q → IsPrefix q Q → length known < length q → IsPrefix (known ++ get_or q (length known) d ∷ []) q
+begins_next [] [] Q d a b l = absurd (omega (arith, l))
+begins_next [] (x ∷ q) Q d a b l = (q, refl)
+begins_next (y ∷ known) [] Q d a b l = absurd (omega (arith, l))
+begins_next (y ∷ known) (x ∷ q) [] d a b l = absurd (cc a.1)
+begins_next (y ∷ known) (x ∷ q) (z ∷ Q) d a b l =
+    let e : known ++ a.0 ≡ Q = cc a.1 in let f : q ++ b.0 ≡ Q = cc b.1 in let g : y ≡ x = cc (a.1, b.1) in
+    let t = begins_next known q Q d (a.0, e) (b.0, f) (omega (arith, l)) in (t.0, λ i. g i ∷ t.1 i)
+
+-- a term of a quotient that was found may be learned where those before it are known
+pub next_found : (s : WorkerState) (q : List Term) (d : Term) (k : ℕ) → IsPrefix s.known (quotient_list s.division) → IsBegun s.division q → length s.known ≡ k → k < length q → IsNextTerm s (get_or q k d)
+next_found s q d k knows begun e l =
+    let p = begins_next s.known q (quotient_list s.division) d knows begun.begins (omega (arith, e, l)) in
+    let r : IsPrefix (s.known ++ get_or q k d ∷ []) q = subst (λ (j : ℕ). IsPrefix (s.known ++ get_or q j d ∷ []) q) e p in record {
+      begins = (r.0 ++ begun.begins.0, sym (append_assoc (s.known ++ get_or q k d ∷ []) r.0 begun.begins.0) ∙ ap (λ (l : List Term). l ++ begun.begins.0) r.1 ∙ begun.begins.1);
+      within = λ h. begun.within (passes_more s.division (s.known ++ get_or q k d ∷ []) q r h);
+    }
 
 -- what a front of the merge says of the terms to come
 pub ahead_of_news : (v : WorkerView) (m : List ℕ) → IsFrontOf v.state (Some m) → (later : List Term) → v.state.known ++ later ≡ quotient_list v.state.division → IsAhead v.state.division (Some (record { mono = m; is_strict = false })) later
@@ -258,7 +289,7 @@ module _ {X M E : Type 0} (vector : M → List ℕ) (value : E → ℤ) (belongs
     divisor = divisor ∙ ap (λ (d : Division). d.g) (sym division);
     rows_are = are ∙ ap (λ (G : List Term). divisor_rows G (script_workers (writer_name writer).script) worker) (divisor ∙ ap (λ (d : Division). d.g) (sym division));
     lead_is = lead_is ∙ ap (λ (d : Division). lm d.g) (sym division);
-    place_is = sym (ap (λ (k : ℕ). k + length (row_terms (row_notes_of vector value (known reader)))) start ∙ ap (λ (x : List (RowNoteOf M E)). length (row_terms (row_notes_of vector value x))) fresh.0);
+    place_is = let b : length (row_terms (row_notes_of vector value (known reader))) ≡ 0 = ap (λ (x : List (RowNoteOf M E)). length (row_terms (row_notes_of vector value x))) fresh.0 in omega (arith, start, b);
     mark_is = mark ∙ ap (λ (x : List (NoteOf M E)). latest_mark (notes_of vector value x)) (sym nothing);
     kept_belongs = tt;
   }
