@@ -9,3 +9,4 @@ pub mod Rounding
 pub mod Bounding
 pub mod Teams
 pub mod Comparing
+pub mod Fields

@@ -81,7 +81,7 @@ impl<'a, R: CoeffRing, M: Monomial> Part<'a, R, M> {
         requires learned { (rows.learned ≡ []) × (rows.unread ≡ []) }
         requires sent { sent writer ≡ [] }
         requires known { IsNew reader }
-        ensures { result.sender ≡ view_of M.vector R.value worker rows writer reader None None }
+        ensures { result.sender ≡ view_of M.vector R.value worker rows.entry writer reader None None }
     {
         Part {
             sender: Sender::new(worker, rows, writer, reader),

@@ -73,7 +73,7 @@ impl<'a, R: CoeffRing, M: Monomial> Sender<'a, R, M> {
         requires learned { (rows.learned ≡ []) × (rows.unread ≡ []) }
         requires sent { sent writer ≡ [] }
         requires known { IsNew reader }
-        ensures { result ≡ view_of M.vector R.value worker rows writer reader None None }
+        ensures { result ≡ view_of M.vector R.value worker rows.entry writer reader None None }
     {
         let divisor = rows.divisor();
         let lead = divisor.terms()[0].mono;

@@ -1,5 +1,5 @@
 //! How a dividing worker hands out its products and sends their sums and its marks.
-ghost use Rattle.std.specs.Prelude.{◌≡◌, ◌≢◌, ◌∷◌, [], IfOk, IfErr, IsTrue, false};
+ghost use Rattle.std.specs.Prelude.{◌≡◌, ◌≢◌, ◌<◌, ◌∷◌, [], length, None, IfOk, IfErr, IsTrue, false};
 ghost use Rattle.canonical_terms.specs.View.{term_of};
 ghost use Rattle.term_ring.specs.Names.{ring_name};
 ghost use Rattle.divide_workers.specs.Fronts.{plain_front};
@@ -37,6 +37,7 @@ impl<R: CoeffRing, M: Monomial> Sender<'_, R, M> {
         requires { IsFrontier self.now (plain_front M.vector frontier) }
         ensures yes { IsTrue result → MayHand self.now }
         ensures no { result ≡ false → IsAllHeld self.now }
+        ensures some { IsTrue result → frontier ≢ None }
     {
         let Some(frontier) = frontier else {
             return false;
@@ -52,7 +53,8 @@ impl<R: CoeffRing, M: Monomial> Sender<'_, R, M> {
     fn hand_out(&mut self, steps: &mut Steps)
         requires may { MayHand self.old }
         requires kept { self.old.state.kept ≡ [] }
-        ensures { HandsOut self.old self.new }
+        ensures hands { HandsOut self.old self.new }
+        ensures fewer { length self.new.state.unread < length self.old.state.unread }
     {
         let Some(sum) = self.rows.next(steps) else {
             unreachable!()
@@ -71,6 +73,7 @@ impl<R: CoeffRing, M: Monomial> Sender<'_, R, M> {
         ensures kept { IsTrue result → self.new.state.kept ≢ [] }
         ensures held { result ≡ false → HoldsBack self.new }
     {
+        self.whole();
         loop {
             if self.kept.is_some() {
                 return true;

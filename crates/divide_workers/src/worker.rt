@@ -60,7 +60,7 @@ impl<'a, R: CoeffRing, M: Monomial> DivideWorker<'a, R, M> {
         requires learned { (rows.learned ≡ []) × (rows.unread ≡ []) }
         requires sent { sent writer ≡ [] }
         requires known { IsNew reader }
-        ensures sender { result.part.sender ≡ view_of M.vector R.value worker rows writer reader None None }
+        ensures sender { result.part.sender ≡ view_of M.vector R.value worker rows.entry writer reader None None }
         ensures pass { result.pass ≡ Some pass }
     {
         DivideWorker {
