@@ -25,3 +25,4 @@ pub mod DivisorLemmas
 pub mod Meeting
 pub mod Adding
 pub mod OneAnswer
+pub mod Shares
