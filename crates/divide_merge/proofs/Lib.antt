@@ -24,4 +24,5 @@ pub mod Reserving
 pub mod DivisorLemmas
 pub mod Meeting
 pub mod Adding
+pub mod Settling
 pub mod OneAnswer
