@@ -22,7 +22,7 @@ use Rattle.divide_wholes.specs.Workers.{IsUnreadTop}
 use Rattle.divide_merge.specs.Divisors.{IsDivisor}
 use Rattle.divide_merge.specs.Merges.{DivideView, IsSound}
 use Rattle.divide_merge.specs.Inside.{Held, divide_view, IsDivideMerge}
-use Rattle.divide_merge.proofs.Adding.{quotient_fits, fits_quotient, norm_fits, passes_norm, passes_count, stays_within, norm_is}
+use Rattle.divide_merge.proofs.Adding.{fits_quotient, norm_fits, passes_norm, passes_count, stays_within, norm_is}
 use Rattle.divide_merge.proofs.Degrees.{read_low}
 use Rattle.divide_merge.proofs.Hearing.{modulus_is}
 
@@ -67,13 +67,6 @@ module _ {X M E : Type 0} {vector : M → List ℕ} {value : E → ℤ} {belongs
   pub spare_here : h.spare ≡ v.spare
   spare_here = ap (λ (u : DivideView). u.spare) view
 
-  pub room_here : (h.spare ≡ 0 → ⊥) → 0 < v.spare
-  room_here n = subst (λ (i : ℕ). 0 < i) spare_here (pick h.spare n)
-    where
-      pick : (i : ℕ) → (i ≡ 0 → ⊥) → 0 < i
-      pick zero f = absurd (f refl)
-      pick (suc i) f = omega arith
-
   -- ---- what is asked where the quotient is found
   pub nonzero_here : value h.divisor.lead.term.coef ≢ pos 0
   nonzero_here z = lead_nonzero d (subst (λ (u : DivideView). IsAccepted u.run.state.division) view k.made_for.fit.accepted) (sym divisor_is.leading.coefficient ∙ z)
@@ -89,15 +82,6 @@ module _ {X M E : Type 0} {vector : M → List ℕ} {value : E → ℤ} {belongs
   none_here m c e none u f =
       none (term_at v.run.state (vector m) u)
       (moved _ _ _ _ _ _ _ _ _ (modulus_is k view) (sym divisor_is.leading.monomial) (sym divisor_is.leading.coefficient) (ap (λ (a : ℤ). record { monomial = vector m; coefficient = a }) (sym e)) (fits_quotient v.run.state (vector m) u f))
-
-  -- what is found is the term there, with a number that fits
-  pub found_here : (m : M) (c : E) → value c ≡ read_coef v.run.state (vector m) → (t : Term)
-      → IsTermQuotient p (vector h.divisor.lead.term.mono) (value h.divisor.lead.term.coef) (record { monomial = vector m; coefficient = value c }) t
-      → Fits v.run.state (vector m) t.coefficient × (t ≡ term_at v.run.state (vector m) t.coefficient)
-  found_here m c e t i =
-      let j : IsTermQuotient d.p (lm d.g) (lc d.g) (record { monomial = vector m; coefficient = read_coef v.run.state (vector m) }) t =
-      moved _ _ _ _ _ _ _ _ _ (sym (modulus_is k view)) divisor_is.leading.monomial divisor_is.leading.coefficient (ap (λ (a : ℤ). record { monomial = vector m; coefficient = a }) e) i in
-      (quotient_fits v.run.state (vector m) t j, ap (λ (o : List ℕ). record { monomial = o; coefficient = t.coefficient }) j.at)
 
   -- ---- a term that is due, of this size, with which there are so many
   module _ (s : IsSound lim v) (t : TermOf M E) (size count : ℕ) (es : size ≡ unsigned_abs (value t.coef)) (ec : count ≡ length h.found + 1) where
