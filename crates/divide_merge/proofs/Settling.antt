@@ -3,12 +3,11 @@ use Rattle.std.proofs.Common.{◌≡◌, ◌≢◌, ◌↔◌, IsTrue, Bool, fal
 use Rattle.std.proofs.lemmas.List.{length-map}
 use Rattle.sdmp_laws.specs.Order.{Order, degree}
 use Rattle.sdmp_laws.specs.Ring.{IsReduced, IsUnit, IsInverse}
-use Rattle.sdmp_laws.specs.Poly.{Term, coef, minus, lm, lc, norm}
+use Rattle.sdmp_laws.specs.Poly.{Term, coef, norm}
 use Rattle.sdmp_laws.specs.Division.{Division, IsAccepted}
 use Rattle.sdmp_laws.specs.Limits.{Passes, PassesBound, greatest_norm, quotient_terms_limit}
 use Rattle.sdmp_laws.proofs.Ints.{red_red}
 use Rattle.sdmp_laws.proofs.DivisionLemmas.{lead_nonzero}
-use Rattle.whole_laws.specs.Wholes.{head_terms}
 use Rattle.canonical_terms.specs.View.{term_of}
 use Rattle.canonical_terms.specs.declared.term.TermOf.{TermOf}
 use Rattle.divide_core.specs.Dividing.{IsTermQuotient}
