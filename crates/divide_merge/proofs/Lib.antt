@@ -24,5 +24,6 @@ pub mod Reserving
 pub mod DivisorLemmas
 pub mod Meeting
 pub mod Adding
+pub mod Settling
 pub mod OneAnswer
 pub mod Shares

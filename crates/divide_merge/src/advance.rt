@@ -136,10 +136,12 @@ impl<R: CoeffRing, M: Monomial> DivideMerge<R, M> {
         let count = self.q.len() + 1;
         let norm = match with_term(self.divisor.norms, self.norm, count, size) {
             Ok(norm) => norm,
-            Err(DivideFault::CoefficientBound) => {
-                return Some(self.end(DivideAdvanceOf::PassedBound { term }));
-            }
-            Err(_) => return Some(self.end(DivideAdvanceOf::PassedTerms { term })),
+            Err(fault) => match fault {
+                DivideFault::CoefficientBound => {
+                    return Some(self.end(DivideAdvanceOf::PassedBound { term }));
+                }
+                _ => return Some(self.end(DivideAdvanceOf::PassedTerms { term })),
+            },
         };
         if self.is_row_full() {
             return Some(DivideAdvanceOf::RowFull);
