@@ -1,0 +1,96 @@
+//! How a dividing worker waits, for room in its ring or for news of the row.
+
+use crate::ended::Ended;
+use crate::sender::Sender;
+use crate::shared::Shared;
+use coeff_ring::CoeffRing;
+use divide_merge::{DivideAdvanceOf, DivideAdvanced, DivideMerge};
+use packed_monomial::Monomial;
+use step_count::Steps;
+use term_ring::Ring;
+use turnstile::{MOST_TURNS, PATIENCE, Pass, Patience, rest};
+
+// Where another worker has ended its call, what this one waits for may need a note of that one: it waits for no more turns than these.
+const LAST_TURNS: u64 = 16;
+
+/// Waits in turns until a push goes through, or gives up with the receipt of the last advance.
+pub(crate) fn wait_for_room<R: CoeffRing, M: Monomial>(
+    shared: &Shared<'_, R, M>,
+    ring: &Ring<R, M>,
+    sender: &mut Sender<'_, R, M>,
+    pass: &mut Pass<DivideMerge<R, M>>,
+    bound: &mut Patience,
+    steps: &mut Steps,
+) -> Result<(), Option<DivideAdvanced<R, M>>> {
+    let mut receipt = None;
+    for turn in 0..MOST_TURNS {
+        advance_merge(shared, pass, &mut receipt, steps);
+        if let Ok(()) = sender.push(ring, steps) {
+            if turn > 0 {
+                bound.helped();
+            }
+            return Ok(());
+        }
+        if is_enough(turn + 1, bound, shared.ended, &receipt) {
+            bound.in_vain();
+            return Err(receipt);
+        }
+        rest(turn);
+    }
+    Err(receipt)
+}
+
+/// Waits in turns until a look finds a note, or gives up with the receipt of the last advance.
+pub(crate) fn wait_for_news<R: CoeffRing, M: Monomial>(
+    shared: &Shared<'_, R, M>,
+    sender: &mut Sender<'_, R, M>,
+    pass: &mut Pass<DivideMerge<R, M>>,
+    bound: &mut Patience,
+    steps: &mut Steps,
+) -> Result<(), Option<DivideAdvanced<R, M>>> {
+    let mut receipt = None;
+    for turn in 0..MOST_TURNS {
+        advance_merge(shared, pass, &mut receipt, steps);
+        if sender.look(shared.row, steps) {
+            if turn > 0 {
+                bound.helped();
+            }
+            return Ok(());
+        }
+        if is_enough(turn + 1, bound, shared.ended, &receipt) {
+            bound.in_vain();
+            return Err(receipt);
+        }
+        rest(turn);
+    }
+    Err(receipt)
+}
+
+// Whether a worker that waited so many turns gives up: where the merge can do no more in this round, or where its patience is over, but with no receipt not before so many tries as `PATIENCE`.
+fn is_enough<R: CoeffRing, M: Monomial>(
+    turns: u64,
+    bound: &Patience,
+    ended: &Ended,
+    receipt: &Option<DivideAdvanced<R, M>>,
+) -> bool {
+    let is_over = bound.is_over(turns) || (turns >= LAST_TURNS && ended.is_told());
+    match receipt {
+        Some(last) => is_over || !matches!(last.answer(), DivideAdvanceOf::Blocked(_)),
+        None => is_over && turns >= PATIENCE,
+    }
+}
+
+// Tries the turnstile once, and where it is let in advances the merge once, and keeps the receipt.
+fn advance_merge<R: CoeffRing, M: Monomial>(
+    shared: &Shared<'_, R, M>,
+    pass: &mut Pass<DivideMerge<R, M>>,
+    receipt: &mut Option<DivideAdvanced<R, M>>,
+    steps: &mut Steps,
+) {
+    if let Ok(mut merge) = shared.turnstile.try_enter(pass) {
+        let last = merge.advance(shared.rings, shared.row, steps);
+        merge.whole();
+        shared.turnstile.leave(pass, merge);
+        *receipt = Some(last);
+    }
+}
