@@ -1,5 +1,5 @@
 -- The products and divisions that the lines of a session make, and how many notes and quotient terms the workers make for them.
-use Rattle.std.specs.Prelude.{◌≡◌, ◌+◌, ◌≤◌, ◌++◌, ℕ, leb, List, [], ◌∷◌, length, map, sum, if◌then◌else◌, Option, Some, None, Result, Ok, Err}
+use Rattle.std.specs.Prelude.{◌≡◌, ◌+◌, ◌≤◌, ◌++◌, ℕ, leb, List, [], ◌∷◌, length, sum_by, if◌then◌else◌, Option, Some, None, Result, Ok, Err}
 use Rattle.sdmp_laws.specs.Order.{Order}
 use Rattle.sdmp_laws.specs.Poly.{Term}
 use Rattle.sdmp_laws.specs.Division.{Division}
@@ -87,7 +87,7 @@ work_of W (MakesProduct m) = record { products = 1; notes = notes_total m W; div
 work_of W (MakesDivision d) = record { products = 0; notes = 0; divisions = 1; terms = length (quotient_list d) }
 
 abbrev pub total : (Work → ℕ) → ℕ → List Calculation → ℕ
-total part W made = sum (map (λ c. part (work_of W c)) made)
+total part W made = sum_by (λ c. part (work_of W c)) made
 
 -- what was counted
 abbrev pub tally_of : Ends → Work
