@@ -14,7 +14,7 @@ use Rattle.global_heap.specs.Names.{notes_total}
 use Rattle.calc_session.specs.Lines.{lines}
 use Rattle.calc_session.specs.Body.{Form, Skip, Define, Show, Mul, Div, Rem, form_of}
 use Rattle.calc_session.specs.Heads.{Head, head_of}
-use Rattle.calc_session.specs.Session.{Monomials, Setting, Defined, setting_of, undefined, known, answer_to}
+use Rattle.calc_session.specs.Session.{Monomials, Setting, Defined, setting_in, setting_of, undefined, known, answer_to}
 use Rattle.calc_session.specs.View.{Body, IsSettingOf, held}
 use Rattle.calc_session.specs.declared.fault.LineFault.{LineFault}
 use Rattle.calc_session.proofs.EffectiveLemmas.{no_lines}
@@ -137,6 +137,15 @@ made_after_head monomials bytes head e = ap (head_calculations monomials) e
 pub none_made : (monomials : Monomials) (bytes : List ℕ) → head_of bytes ≡ None → calculations monomials bytes ≡ []
 unfolding calculations
 none_made monomials bytes e = ap (head_calculations monomials) e
+
+-- what the session that a header asks for makes
+pub asked_of : (monomials : Monomials) (session : Body) (ord : Order) (names : List (List ℕ)) (lim p q : ℕ) (lines : List (List ℕ))
+    → session ≡ record { setting = setting_in ord names lim p; defined = [] }
+    → ord ≡ monomials.order → lim ≡ monomials.limit (length names) → p ≡ q
+    → calculations_by session lines ≡ body_calculations (setting_of monomials names q) undefined lines
+asked_of monomials session ord names lim p q lines e o l m =
+    ap (λ (s : Body). calculations_by s lines) e
+    ∙ (λ i. body_calculations (setting_in (o i) names (l i) (m i)) undefined lines)
 
 -- ---- commands
 pub line_makes : (setting : Setting) (defined : Defined) (line : List ℕ) (form : Form) → form_of setting.variables line ≡ Ok form

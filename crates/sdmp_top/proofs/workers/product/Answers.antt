@@ -1,8 +1,11 @@
-use Rattle.std.proofs.Common.{IfOk, sym}
+use Rattle.std.proofs.Common.{IfOk, ◌∷◌, [], sym, subst, ◌∙◌}
 use Rattle.sdmp_laws.specs.Poly.{Over}
 use Rattle.calc_session.proofs.CommandLemmas.{if_ok_weaker}
-use Rattle.std.proofs.lemmas.Result.{IfErr-weaker}
+use Rattle.whole_laws.specs.Notes.{Product}
+use Rattle.std.proofs.lemmas.Result.{IfErr-weaker, on_ok_weaker}
 use Rattle.sdmp_top.proofs.FactorLemmas.{product_swaps, refused_swaps}
+use Rattle.sdmp_top.specs.Work.{MakesProduct, IsTallied, tally_of}
+use Rattle.sdmp_top.proofs.WorkLemmas.{left_rows, right_rows}
 use Rattle.sdmp_top.proofs.workers.product.Goals as goal
 
 pub returns-clause-product : goal.returns-clause-product
@@ -19,3 +22,21 @@ returns-clause-refused g c =
     IfErr-weaker c.product_by_rows-2.result _ _
     (λ fault is. refused_swaps g.M.Monomial.LIM c.args.f.now.modulus c.args.g.now.modulus c.args.f.now.list c.args.g.now.list fault c.requires.moduli is)
     c.product_by_rows-2.ensures.refused
+
+pub returns-then-gives_rows-clause-tallied : goal.returns-then-gives_rows-clause-tallied
+returns-then-gives_rows-clause-tallied g c =
+    let f = c.args.f.now in
+    let h = c.args.g.now in
+    on_ok_weaker c.product_by_rows.result
+    (λ k. subst (λ (m : Product). IsTallied c.args.by.now.workers (MakesProduct m ∷ []) (tally_of c.args.ends.now) (tally_of c.product_by_rows.new.ends))
+    (sym (left_rows g.M.Monomial.order f.modulus f.modulus g.M.Monomial.VARS f.list h.list (sym c.if-gives_rows.true ∙ c.gives_rows.ensures))) k)
+    c.product_by_rows.ensures.tallied
+
+pub returns-clause-tallied : goal.returns-clause-tallied
+returns-clause-tallied g c =
+    let f = c.args.f.now in
+    let h = c.args.g.now in
+    on_ok_weaker c.product_by_rows-2.result
+    (λ k. subst (λ (m : Product). IsTallied c.args.by.now.workers (MakesProduct m ∷ []) (tally_of c.args.ends.now) (tally_of c.product_by_rows-2.new.ends))
+    (sym (right_rows g.M.Monomial.order f.modulus h.modulus g.M.Monomial.VARS f.list h.list (sym c.if-gives_rows.false ∙ c.gives_rows.ensures) c.requires.moduli)) k)
+    c.product_by_rows-2.ensures.tallied
