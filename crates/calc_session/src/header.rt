@@ -32,7 +32,7 @@ pub struct HeaderFault {
 }
 
 /// Reads the variables and the ring of a session, of which `bytes` is the whole input.
-#[tactic(auto, using(crate::proofs::SessionLemmas::header_none, crate::proofs::SessionLemmas::header_vars, crate::proofs::SessionLemmas::header_half, crate::proofs::SessionLemmas::header_ring, crate::proofs::SessionLemmas::header_whole, crate::proofs::HeadLemmas::head_none, crate::proofs::HeadLemmas::head_vars, crate::proofs::HeadLemmas::head_half, crate::proofs::HeadLemmas::head_ring, crate::proofs::HeadLemmas::head_whole))]
+#[tactic(auto, using(crate::proofs::SessionLemmas::header_none, crate::proofs::SessionLemmas::header_vars, crate::proofs::SessionLemmas::header_half, crate::proofs::SessionLemmas::header_ring, crate::proofs::SessionLemmas::header_whole))]
 pub fn parse_header(alloc: Global, bytes: &[u8]) -> Result<Header<'_>, HeaderFault>
     ensures header { IfOk
         result
