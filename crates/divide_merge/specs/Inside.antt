@@ -1,19 +1,18 @@
 -- The fields of a merge of a division, and what they keep.
 use Rattle.std.specs.Prelude.{◌≡◌, ◌⊎◌, ◌↔◌, ℕ, ◌+◌, ◌<◌, ◌≤◌, ◌^◌, ℤ, min, List, [], length, map, drop, All, Option, Some, None, IfSome, slice_index_or}
+use Rattle.std.specs.Option.{is_some}
 use Rattle.sdmp_laws.specs.Order.{Order}
-use Rattle.sdmp_laws.specs.Poly.{Term, norm}
+use Rattle.sdmp_laws.specs.Poly.{Term, norm as norm_of}
 use Rattle.sdmp_laws.specs.Canonical.{Polynomial}
-use Rattle.sdmp_laws.specs.Division.{AtOrAbove}
 use Rattle.whole_laws.specs.Notes.{Note}
 use Rattle.whole_laws.specs.Wholes.{notes_of as notes_at}
 use Rattle.divide_wholes.specs.Row.{RowNote, row_terms}
-use Rattle.divide_wholes.specs.Wholes.{DivideState, DivideWhole, latest_mark}
-use Rattle.divide_wholes.specs.MergeRow.{HasRow}
+use Rattle.divide_wholes.specs.Wholes.{DivideState, latest_mark}
 use Rattle.canonical_terms.specs.View.{sum_of}
 use Rattle.canonical_terms.specs.declared.term.TermOf.{TermOf}
-use Rattle.term_ring.specs.Spelling.{notes_of}
-use Rattle.term_ring.specs.Ends.{taken, tail_seen, empty_looks}
-use Rattle.term_ring.specs.Names.{reader_name, IsReading, notes_count}
+use Rattle.global_heap.specs.Inside.{reader_notes}
+use Rattle.term_ring.specs.Ends.{tail_seen, empty_looks}
+use Rattle.term_ring.specs.Names.{RingName, reader_name, IsReading, notes_count}
 use Rattle.term_ring.specs.declared.ring.Reader.{Reader}
 use Rattle.ring_heads.specs.Heads.{plain_heads, HeadBelongs}
 use Rattle.ring_heads.specs.declared.head.HeadOf.{HeadOf}
@@ -21,8 +20,9 @@ use Rattle.ring_heads.specs.declared.head.HeadOf.TheVariants as head
 use Rattle.quotient_row.specs.Spelling.{notes_of as row_notes_of}
 use Rattle.quotient_row.specs.Ends.{published}
 use Rattle.quotient_row.specs.declared.row.RowWriter.{RowWriter}
-use Rattle.divide_merge.specs.Names.{writer_row, IsPublishing, first_division, HasScripts, IsFit}
-use Rattle.divide_merge.specs.Runs.{DivideRun, IsCounted, Verdict, IsVerdict, IsFinal}
+use Rattle.divide_merge.specs.Names.{RowIdentity, writer_row, IsPublishing, first_division, HasScripts, IsFit}
+use Rattle.dividing_rounds.specs.Runs.{DivideRun, RunWhole}
+use Rattle.divide_merge.specs.Verdicts.{Verdict, IsVerdict, IsFinal}
 use Rattle.divide_merge.specs.Divisors.{IsDivisor}
 use Rattle.divide_merge.specs.Merges.{DivideView, verdict_of, free_places}
 use Rattle.divide_merge.specs.declared.answer.DivideAdvanceOf.{DivideAdvanceOf}
@@ -55,9 +55,9 @@ module _ {M : Type 0} where
   vector_of vector (Some m) = Some (vector m)
 
 module _ {M E : Type 0} where
-  abbrev pub over_of : (M → List ℕ) → (E → ℤ) → Option (DivideAdvanceOf M E) → Option Verdict
-  over_of vector value None = None
-  over_of vector value (Some x) = Some (verdict_of vector value x)
+  abbrev pub answer_of : (M → List ℕ) → (E → ℤ) → Option (DivideAdvanceOf M E) → Option Verdict
+  answer_of vector value None = None
+  answer_of vector value (Some x) = Some (verdict_of vector value x)
 
   -- no worker of a division ends
   abbrev pub NotEnded : HeadOf M E → Type 0
@@ -67,7 +67,7 @@ module _ {M E : Type 0} where
 
 module _ {X M E : Type 0} (vector : M → List ℕ) (value : E → ℤ) where
   abbrev pub taken_notes : List (Reader X M E) → List (List Note)
-  taken_notes readers = map (λ r. notes_of vector value (taken r)) readers
+  taken_notes readers = map (reader_notes vector value) readers
 
   abbrev pub published_notes : RowWriter X M E → List RowNote
   published_notes w = row_notes_of vector value (published w)
@@ -94,15 +94,16 @@ module _ {X M E : Type 0} (vector : M → List ℕ) (value : E → ℤ) where
       record {
         state = divide_state h;
         notes = published_notes h.writer;
-        fronts = h.fronts;
-        processed = h.processed;
-        over = over_of vector value h.over;
+        fronts_count = h.fronts;
+        processed_count = h.processed;
+        over = is_some (answer_of vector value h.over);
       }
 
   abbrev pub divide_view : Held X M E → DivideView
   divide_view h =
       record {
         run = divide_run h;
+        answer = answer_of vector value h.over;
         spare = h.spare;
         rings = map reader_name h.readers;
         tails = map tail_seen h.readers;
@@ -115,33 +116,45 @@ pub record IsLatest {M : Type 0} (vector : M → List ℕ) (m : Mark M) (latest 
   pub known : m.known ≡ latest.0
   pub top : vector_of vector m.top ≡ latest.1
 
+-- of the division that these rings are of: the rings, the row, and what the merge keeps of it
+pub record IsMadeFor {M E : Type 0} (vector : M → List ℕ) (value : E → ℤ) (belongs : ℕ → E → Type 0) (ord : Order) (n lim p : ℕ) (divisor : Divisor M E) (dividend : Polynomial) (row : RowIdentity) (rings : List RingName) : Type 0 where
+  pub scripts : HasScripts (first_division rings) rings
+  pub fit : IsFit lim (first_division rings)
+  pub ordered : (first_division rings).ord ≡ ord
+  pub variables : (first_division rings).n ≡ n
+  pub modulus : (first_division rings).p ≡ p
+  pub row_division : row.name.division ≡ first_division rings
+  pub divisor_is : IsDivisor vector value (belongs p) lim (first_division rings) divisor
+  pub dividend_is : dividend ≡ record { modulus = p; list = (first_division rings).f }
+
+-- of each worker: its reader, its head and its latest mark
+pub record HasWorkers {X M E : Type 0} (vector : M → List ℕ) (value : E → ℤ) (Belongs : E → Type 0) (readers : List (Reader X M E)) (heads : List (HeadOf M E)) (marks : List (Mark M)) : Type 0 where
+  pub some : 0 < length readers
+  pub few : length readers < 2 ^ 32
+  pub reading : All IsReading readers
+  pub heads_long : length heads ≡ length readers
+  pub not_ended : All NotEnded heads
+  pub heads_belong : All (HeadBelongs Belongs) heads
+  pub marks_long : length marks ≡ length readers
+  pub marks_are : (w : ℕ) (d : Mark M) → w < length readers → IsLatest vector (slice_index_or marks w d) (latest_mark (notes_at (taken_notes vector value readers) w))
+
+-- of the terms that are found, with room for so many of the quotient and of the remainder
+pub record HasTerms {M E : Type 0} (vector : M → List ℕ) (value : E → ℤ) (Belongs : E → Type 0) (p quotient_room rest_room : ℕ) (found rest : List (TermOf M E)) (norm spare : ℕ) : Type 0 where
+  pub found_belongs : All (λ t. Belongs t.coef) found
+  pub rest_belongs : All (λ t. Belongs t.coef) rest
+  pub norm_is : p ≡ 0 → norm ≡ norm_of (sum_of vector value found)
+  pub room : length found + spare ≤ quotient_room
+  pub rest_fits : length rest + spare ≤ rest_room
+
 -- what a merge keeps, with room for so many terms of the quotient and of the remainder
 pub record IsDivideMerge {X M E : Type 0} (vector : M → List ℕ) (value : E → ℤ) (belongs : ℕ → E → Type 0) (ord : Order) (n lim p quotient_room rest_room : ℕ) (h : Held X M E) : Type 0 where
-  pub whole : DivideWhole (divide_state vector value h)
-  pub row_is : HasRow (divide_state vector value h) (published_notes vector value h.writer)
-  pub counted : IsCounted (divide_run vector value h)
-  pub begun : vector_of vector h.front ≡ None ↔ (length h.found + h.fronts ≡ 0)
-  pub over : IfSome (over_of vector value h.over) (λ x. IsFinal x × IsVerdict (divide_state vector value h) (free_places (divide_view vector value h)) h.spare x)
-  pub scripts : HasScripts (first_division (map reader_name h.readers)) (map reader_name h.readers)
-  pub fit : IsFit lim (first_division (map reader_name h.readers))
-  pub ordered : (first_division (map reader_name h.readers)).ord ≡ ord
-  pub variables : (first_division (map reader_name h.readers)).n ≡ n
-  pub modulus : (first_division (map reader_name h.readers)).p ≡ p
-  pub reading : All IsReading h.readers
-  pub some : 0 < length h.readers
-  pub few : length h.readers < 2 ^ 32
+  pub made_for : IsMadeFor vector value belongs ord n lim p h.divisor h.dividend (writer_row h.writer) (map reader_name h.readers)
+  pub workers : HasWorkers vector value (belongs p) h.readers h.heads h.marks
+  pub terms : HasTerms vector value (belongs p) p quotient_room rest_room h.found h.rest h.norm h.spare
   pub publishing : IsPublishing h.writer
-  pub row_division : (writer_row h.writer).name.division ≡ first_division (map reader_name h.readers)
-  pub divisor : IsDivisor vector value (belongs p) lim (first_division (map reader_name h.readers)) h.divisor
-  pub dividend : h.dividend ≡ record { modulus = p; list = (first_division (map reader_name h.readers)).f }
-  pub heads_long : length h.heads ≡ length h.readers
-  pub not_ended : All NotEnded h.heads
-  pub heads_belong : All (HeadBelongs (belongs p)) h.heads
-  pub marks_long : length h.marks ≡ length h.readers
-  pub marks_are : (w : ℕ) (d : Mark M) → w < length h.readers → IsLatest vector (slice_index_or h.marks w d) (latest_mark (notes_at (taken_notes vector value h.readers) w))
-  pub found_belongs : All (λ t. belongs p t.coef) h.found
-  pub rest_belongs : All (λ t. belongs p t.coef) h.rest
-  pub norm_is : p ≡ 0 → h.norm ≡ norm (sum_of vector value h.found)
-  pub room : length h.found + h.spare ≤ quotient_room
-  pub rest_fits : length h.rest + h.spare ≤ rest_room
-  pub counted_taken : h.taken ≡ min (notes_count (taken_notes vector value h.readers)) 18446744073709551615
+  pub row_room : length (published_notes vector value h.writer) ≤ (writer_row h.writer).places
+  pub whole : RunWhole (divide_run vector value h)
+  -- there is a front exactly where a note of the run was published
+  pub begun : vector_of vector h.front ≡ None ↔ (length (sum_of vector value h.found) + h.fronts ≡ 0)
+  pub cause : IfSome (answer_of vector value h.over) (λ x. IsFinal x × IsVerdict (divide_state vector value h) (free_places (divide_view vector value h)) h.spare x)
+  pub counted : h.taken ≡ min (notes_count (taken_notes vector value h.readers)) 18446744073709551615

@@ -1,25 +1,26 @@
 -- A merge of a division as contracts see it, and what its calls change.
 use Rattle.std.specs.Prelude.{◌≡◌, ℕ, ◌+◌, ◌*◌, ◌-◌, ◌<◌, ◌≤◌, ◌⊎◌, ◌^◌, ◌↔◌, ℤ, List, [], ◌++◌, length, Option, Some, None, IfSome, slice_index_or}
 use mathlib.Core.List.{IsPrefix}
+use Rattle.std.specs.Option.{is_some}
 use Rattle.sdmp_laws.specs.Poly.{Term}
 use Rattle.sdmp_laws.specs.Division.{Division, IsExact, IsRem}
 use Rattle.sdmp_laws.specs.LongDivision.{quotient_list}
 use Rattle.sdmp_laws.specs.declared.Mode.TheVariants.{Exact, Remainder}
 use Rattle.whole_laws.specs.Notes.{Note, after_lead, terms_in, owed}
 use Rattle.whole_laws.specs.Wholes.{notes_of, head_of_worker}
-use Rattle.divide_wholes.specs.Row.{RowNote}
-use Rattle.divide_wholes.specs.Wholes.{DivideWhole, divide_script}
-use Rattle.divide_wholes.specs.MergeRow.{HasRow}
+use Rattle.divide_wholes.specs.Wholes.{divide_script}
 use Rattle.canonical_terms.specs.View.{term_of}
 use Rattle.term_ring.specs.Names.{RingName, NoneBelow}
 use Rattle.divide_merge.specs.Names.{RowIdentity, first_division, HasScripts, IsFit}
-use Rattle.divide_merge.specs.Runs.{DivideRun, IsCounted, Verdict, Finishes, HasNone, PassesNorm, PassesCount, IsBlocked, RowIsFull, OutIsFull, IsVerdict, IsFinal, progress}
+use Rattle.dividing_rounds.specs.Runs.{DivideRun, RunWhole}
+use Rattle.divide_merge.specs.Verdicts.{Verdict, Finishes, HasNone, PassesNorm, PassesCount, IsBlocked, RowIsFull, OutIsFull, IsVerdict, IsFinal}
 use Rattle.divide_merge.specs.declared.answer.DivideAdvanceOf.{DivideAdvanceOf}
 use Rattle.divide_merge.specs.declared.answer.DivideAdvanceOf.TheVariants as answer
 
--- how far the merge has come, for how many more terms there is room, the rings of its readers, the tail that each reader saw last and how often it looked in vain, and the row of its writer
+-- what the merge holds and has done, and what it answered where it is over; for how many more terms there is room; the rings of its readers, the tail that each reader saw last and how often it looked in vain; and the row of its writer
 pub record DivideView : Type 0 where
   pub run : DivideRun
+  pub answer : Option Verdict
   pub spare : ℕ
   pub rings : List RingName
   pub tails : List ℕ
@@ -94,12 +95,11 @@ pub record Grows (a b : DivideView) : Type 0 where
 
 -- what always holds of a merge
 pub record IsSound (lim : ℕ) (v : DivideView) : Type 0 where
-  pub whole : DivideWhole v.run.state
-  pub row_is : HasRow v.run.state v.run.notes
-  pub counted : IsCounted v.run
+  pub whole : RunWhole v.run
   -- there is a front exactly where a note of the run was published
-  pub begun : v.run.state.front ≡ None ↔ (length v.run.state.q + v.run.fronts ≡ 0)
-  pub over : IfSome v.run.over (λ x. IsFinal x × IsVerdict v.run.state (free_places v) v.spare x)
+  pub begun : v.run.state.front ≡ None ↔ (length v.run.state.q + v.run.fronts_count ≡ 0)
+  pub over : v.run.over ≡ is_some v.answer
+  pub cause : IfSome v.answer (λ x. IsFinal x × IsVerdict v.run.state (free_places v) v.spare x)
   pub division : v.run.state.division ≡ first_division v.rings
   pub scripts : HasScripts v.run.state.division v.rings
   pub fit : IsFit lim v.run.state.division

@@ -4,6 +4,7 @@
 mod advance;
 mod answer;
 mod divisor;
+mod laws;
 mod lower;
 mod making;
 mod mark;
@@ -14,5 +15,6 @@ mod sharing;
 mod steps;
 
 pub use answer::{DivideAdvance, DivideAdvanceOf};
+pub use laws::{division_at_each_moment, division_while_nobody_holds, one_verdict};
 pub use merge::DivideMerge;
 pub use receipt::{DivideAdvanced, DivideTally};

@@ -1,7 +1,8 @@
 //! How low a front may be.
-ghost use Rattle.std.specs.Prelude.{◌≡◌, ◌≤◌, ◌<◌, List, ℕ, length};
-ghost use Rattle.sdmp_laws.specs.Order.{degree, Divides};
+ghost use Rattle.std.specs.Prelude.{◌≡◌, ◌≤◌, ◌<◌, ℕ, List, length, IfSome, false};
+ghost use Rattle.sdmp_laws.specs.Order.{degree, ◌⋅◌, Divides};
 ghost use Rattle.sdmp_laws.specs.Division.{AtOrAbove};
+ghost use Rattle.divide_merge.specs.Lower.{power, IsLeastAbove};
 
 use packed_monomial::{MOST_VARIABLES, Monomial};
 use std::cmp::Ordering;
@@ -15,26 +16,42 @@ pub(crate) fn lowered<M: Monomial>(lead: M, bound: M, steps: &mut Steps) -> M
 {
     let degree = bound.degree();
     let least = lead.degree();
-    if degree > M::limit() || M::VARS > MOST_VARIABLES || M::VARS == 0 {
-        return bound;
-    }
     if degree < least {
         return M::one();
     }
-    let Some(last) = multiple(lead, M::VARS - 1, degree - least) else {
-        return bound;
-    };
-    if !matches!(bound.higher(last, steps), Ordering::Less) {
+    let more = degree - least;
+    if is_multiple_below(lead, bound, more, steps) {
         return bound;
     }
-    if degree == least {
+    if more == 0 {
         return M::one();
     }
-    multiple(lead, 0, degree - least - 1).unwrap_or(bound)
+    multiple(lead, 0, more - 1).unwrap_or(bound)
 }
 
-// `lead` times the variable with this number, so many times
-fn multiple<M: Monomial>(lead: M, variable: usize, times: u64) -> Option<M> {
+// whether a multiple of `lead` with so much more degree, which is that of `bound`, may be at `bound` or below: the least of them is, or it has no room
+fn is_multiple_below<M: Monomial>(lead: M, bound: M, more: u64, steps: &mut Steps) -> bool
+    requires lead { degree (M.vector lead) ≤ M.LIM }
+    ensures { result ≡ false → IsLeastAbove M.order M.VARS (M.vector lead) (M.vector bound) more }
+{
+    if M::VARS == 0 {
+        return true;
+    }
+    match multiple(lead, M::VARS - 1, more) {
+        None => true,
+        Some(last) => !matches!(bound.higher(last, steps), Ordering::Less),
+    }
+}
+
+// `lead` times a power of the variable with this number, where that is within the limit on degrees
+fn multiple<M: Monomial>(lead: M, variable: usize, times: u64) -> Option<M>
+    requires lead { degree (M.vector lead) ≤ M.LIM }
+    requires variable { variable < M.VARS }
+    ensures { IfSome result (λ m. M.vector m ≡ M.vector lead ⋅ power M.VARS variable times) }
+{
+    if M::VARS > MOST_VARIABLES || times > M::limit() {
+        return None;
+    }
     let mut exponents = [0u32; MOST_VARIABLES];
     exponents[variable] = times as u32;
     match M::pack(&exponents[..M::VARS]) {

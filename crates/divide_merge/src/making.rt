@@ -6,7 +6,7 @@ ghost use Rattle.term_ring.specs.Ends.{taken, tail_seen, empty_looks};
 ghost use Rattle.term_ring.specs.Names.{reader_name, IsReading};
 ghost use Rattle.quotient_row.specs.Ends.{published};
 ghost use Rattle.divide_merge.specs.Names.{HasScripts, writer_row, IsPublishing};
-ghost use Rattle.divide_merge.specs.Runs.{run_start};
+ghost use Rattle.dividing_rounds.specs.Runs.{run_start};
 
 use crate::divisor::divisor_of;
 use crate::mark::Mark;
@@ -43,6 +43,7 @@ impl<R: CoeffRing, M: Monomial> DivideMerge<R, M> {
         requires row { (writer_row writer).name ≡ record { division = division_of mode M.order M.VARS f.now g.now; start = 0 } }
         requires unpublished { published writer ≡ [] }
         ensures run { IfOk result (λ m. m.run ≡ run_start (division_of mode M.order M.VARS f.now g.now) (vec_len readers)) }
+        ensures answer { IfOk result (λ m. m.answer ≡ None) }
         ensures rings { IfOk result (λ m. m.rings ≡ map reader_name readers.items) }
         ensures row { IfOk result (λ m. m.row ≡ writer_row writer) }
         ensures tails { IfOk result (λ m. m.tails ≡ map tail_seen readers.items) }

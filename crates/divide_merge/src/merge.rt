@@ -1,15 +1,16 @@
 //! The merge of a division.
-ghost use Rattle.std.specs.Prelude.{◌≡◌, ◌≢◌, ◌+◌, ◌≤◌, ◌↔◌, [], length, min, OnOk, OnErr, IsTrue, Some, None, List};
+ghost use Rattle.std.specs.Prelude.{◌≡◌, ◌≢◌, ◌+◌, ◌≤◌, ◌++◌, ◌↔◌, [], length, min, OnOk, OnErr, IsTrue, Some, None, List};
 ghost use Rattle.sdmp_laws.specs.Poly.{Term as PlainTerm};
 ghost use Rattle.sdmp_laws.specs.LongDivision.{quotient_list};
 ghost use Rattle.canonical_terms.specs.View.{sum_of};
-ghost use Rattle.divide_wholes.specs.MergeRow.{with_new_row};
 ghost use Rattle.divide_wholes.specs.Wholes.{AllUnderFront};
 ghost use Rattle.quotient_row.specs.Ends.{published};
 ghost use Rattle.divide_merge.specs.Names.{writer_row, IsPublishing};
 ghost use Rattle.divide_merge.specs.Inside.{vector_of};
 ghost use Rattle.divide_merge.specs.Merges.{IsEnding};
-ghost use Rattle.divide_merge.specs.Runs.{Finishes, progress};
+ghost use Rattle.dividing_rounds.specs.Runs.{run_row};
+ghost use Rattle.dividing_rounds.specs.Rounds.{progress};
+ghost use Rattle.divide_merge.specs.Verdicts.{Finishes};
 
 use crate::answer::DivideAdvance;
 use crate::divisor::Divisor;
@@ -104,6 +105,7 @@ impl<R: CoeffRing, M: Monomial> DivideMerge<R, M> {
     /// Makes room for at least `n` more terms, whether they go to the quotient or to the remainder. The room at least doubles where it grows.
     pub fn reserve(&mut self, n: usize) -> Result<(), NoMemory>
         ensures run { self.new.run ≡ self.old.run }
+        ensures answer { self.new.answer ≡ self.old.answer }
         ensures rings { self.new.rings ≡ self.old.rings }
         ensures row { self.new.row ≡ self.old.row }
         ensures tails { self.new.tails ≡ self.old.tails }
@@ -150,7 +152,7 @@ impl<R: CoeffRing, M: Monomial> DivideMerge<R, M> {
 
     /// Whether an advance has answered `Finished`, `NoQuotient`, `PassedBound` or `PassedTerms`.
     pub fn is_over(&self) -> bool
-        ensures { IsTrue result ↔ self.now.run.over ≢ None }
+        ensures { IsTrue result ↔ IsTrue self.now.run.over }
     {
         self.over.is_some()
     }
@@ -158,7 +160,7 @@ impl<R: CoeffRing, M: Monomial> DivideMerge<R, M> {
     /// The present front: no later quotient term times the leading monomial of the divisor is above it. There is none exactly before the first note of the run is published.
     pub fn front(&self) -> Option<M>
         ensures front { vector_of M.vector result ≡ self.now.run.state.front }
-        ensures none { result ≡ None ↔ (length self.now.run.state.q + self.now.run.fronts ≡ 0) }
+        ensures none { result ≡ None ↔ (length self.now.run.state.q + self.now.run.fronts_count ≡ 0) }
         ensures later { (later : List PlainTerm) → self.now.run.state.q ++ later ≡ quotient_list self.now.run.state.division → AllUnderFront self.now.run.state.division (vector_of M.vector result) later }
     {
         self.front
@@ -170,8 +172,9 @@ impl<R: CoeffRing, M: Monomial> DivideMerge<R, M> {
         requires division { (writer_row writer).name.division ≡ self.old.run.state.division }
         requires start { (writer_row writer).name.start ≡ length self.old.run.state.q }
         requires nothing { published writer ≡ [] }
-        ensures run { self.new.run ≡ record self.old.run { state = with_new_row self.old.run.state; notes = [] } }
+        ensures run { self.new.run ≡ run_row self.old.run }
         ensures row { self.new.row ≡ writer_row writer }
+        ensures answer { self.new.answer ≡ self.old.answer }
         ensures spare { self.new.spare ≡ self.old.spare }
         ensures rings { self.new.rings ≡ self.old.rings }
         ensures tails { self.new.tails ≡ self.old.tails }
@@ -182,7 +185,7 @@ impl<R: CoeffRing, M: Monomial> DivideMerge<R, M> {
 
     /// Quotient and remainder, once the merge has finished.
     pub fn finish(self) -> (Poly<R, M>, Poly<R, M>)
-        requires { self.run.over ≡ Some Finishes }
+        requires { self.answer ≡ Some Finishes }
         ensures quotient_modulus { result.0.modulus ≡ self.run.state.division.p }
         ensures remainder_modulus { result.1.modulus ≡ self.run.state.division.p }
         ensures quotient { result.0.list ≡ self.run.state.q }

@@ -1,8 +1,12 @@
 //! What a merge of a division finds at the monomial that it reads next.
-ghost use Rattle.std.specs.Prelude.{◌≡◌, ◌<◌, ◌⊎◌, ℕ, List, IsTrue, ◌↔◌, MatchOption, false};
-ghost use Rattle.divide_wholes.specs.Wholes.{latest_mark};
-ghost use Rattle.divide_merge.specs.Inside.{vector_of, IsGreater};
-ghost use Rattle.divide_merge.specs.Runs.{IsNextRead, IsAsked, IsReady, AllReady, IsFirstStuck, IsTopLow, IsFrontDue, IsHighest, value_at};
+ghost use Rattle.std.specs.Prelude.{◌≡◌, ◌≢◌, ◌↔◌, ◌<◌, ℕ, List, ℤ, MatchOption, IsTrue, Some, None, false, cond, eqb};
+ghost use Rattle.sdmp_laws.specs.Order.{IsUnder};
+ghost use Rattle.sdmp_laws.specs.Poly.{coef};
+ghost use Rattle.divide_merge.specs.Inside.{vector_of};
+ghost use Rattle.divide_merge.specs.Reading.{IsReadNext, IsGreatest, IsLowTop, IsGreater};
+ghost use Rattle.divide_merge.specs.Verdicts.{NoneStuck, IsFirstStuck};
+ghost use Rattle.dividing_rounds.specs.Found.{read_coef};
+ghost use Rattle.dividing_rounds.specs.Stalls.{IsGreatestRead, IsAsked, IsCurrent, IsStuck, IsDue};
 
 use crate::mark::Next;
 use crate::merge::DivideMerge;
@@ -13,7 +17,9 @@ use step_count::Steps;
 
 impl<R: CoeffRing, M: Monomial> DivideMerge<R, M> {
     /// The greatest monomial of the unread terms and of the heads, and None exactly where there is neither.
-    pub(crate) fn next_read(&self, steps: &mut Steps) -> Option<Next<M>> {
+    pub(crate) fn next_read(&self, steps: &mut Steps) -> Option<Next<M>>
+        ensures { MatchOption result (IsGreatestRead self.now.run.state None) (λ x. IsReadNext M.vector self.now.run.state x) }
+    {
         let terms = self.dividend.terms();
         let Some(top) = self.heads.top(steps) else {
             if self.read >= terms.len() {
@@ -36,26 +42,30 @@ impl<R: CoeffRing, M: Monomial> DivideMerge<R, M> {
     }
 
     /// Whether the worker may owe a product: it has no head, and a part of the divisor.
-    fn is_asked(&self, worker: usize) -> bool {
+    fn is_asked(&self, worker: usize) -> bool
+        requires { worker < self.now.run.state.workers }
+        ensures { IsTrue result ↔ IsAsked self.now.run.state worker }
+    {
         if !self.heads.is_missing(worker) {
             return false;
         }
-        // the place of its first row in the divisor
-        let first = if worker == 0 {
-            self.readers.len()
-        } else {
-            worker
-        };
-        first < self.divisor.terms
+        first_place(worker, self.readers.len()) < self.divisor.terms
     }
 
     /// Whether the latest mark of the worker knows each quotient term that is found.
-    fn is_current(&self, worker: usize) -> bool {
+    fn is_current(&self, worker: usize) -> bool
+        requires { worker < self.now.run.state.workers }
+        ensures { IsTrue result ↔ IsCurrent self.now.run.state worker }
+    {
         self.marks[worker].known as usize == self.q.len()
     }
 
     /// Whether the worker need not be waited for.
-    fn is_ready(&self, next: Option<M>, worker: usize, steps: &mut Steps) -> bool {
+    fn is_ready(&self, next: Option<M>, worker: usize, steps: &mut Steps) -> bool
+        requires { worker < self.now.run.state.workers }
+        ensures yes { IsTrue result → IsStuck self.now.run.state (vector_of M.vector next) worker → ⊥ }
+        ensures no { result ≡ false → IsStuck self.now.run.state (vector_of M.vector next) worker }
+    {
         if !self.is_asked(worker) {
             return true;
         }
@@ -63,7 +73,12 @@ impl<R: CoeffRing, M: Monomial> DivideMerge<R, M> {
     }
 
     /// The first worker that has to be waited for.
-    pub(crate) fn first_stuck(&self, next: Option<M>, steps: &mut Steps) -> Option<u32> {
+    pub(crate) fn first_stuck(&self, next: Option<M>, steps: &mut Steps) -> Option<u32>
+        ensures { MatchOption
+            result
+            (NoneStuck self.now.run.state (vector_of M.vector next))
+            (λ w. IsFirstStuck self.now.run.state (vector_of M.vector next) w) }
+    {
         for worker in 0..self.readers.len() {
             if !self.is_ready(next, worker, steps) {
                 return Some(worker as u32);
@@ -73,7 +88,13 @@ impl<R: CoeffRing, M: Monomial> DivideMerge<R, M> {
     }
 
     /// The bound of the front that is due, where one is.
-    pub(crate) fn due_bound(&self, next: Option<M>, steps: &mut Steps) -> Option<M> {
+    pub(crate) fn due_bound(&self, next: Option<M>, steps: &mut Steps) -> Option<M>
+        requires { IsGreatestRead self.now.run.state (vector_of M.vector next) }
+        ensures { MatchOption
+            result
+            ((x : List ℕ) → IsDue self.now.run.state x → ⊥)
+            (λ b. IsDue self.now.run.state (M.vector b)) }
+    {
         let mut bound = next;
         for worker in 0..self.readers.len() {
             if !self.is_asked(worker) {
@@ -93,7 +114,9 @@ impl<R: CoeffRing, M: Monomial> DivideMerge<R, M> {
     }
 
     /// Whether the monomial is below the present front, or there is none.
-    fn is_under_front(&self, mono: M, steps: &mut Steps) -> bool {
+    fn is_under_front(&self, mono: M, steps: &mut Steps) -> bool
+        ensures { IsTrue result ↔ IsUnder M.order self.now.run.state.front (M.vector mono) }
+    {
         match self.front {
             None => true,
             Some(front) => matches!(mono.higher(front, steps), Ordering::Less),
@@ -101,7 +124,12 @@ impl<R: CoeffRing, M: Monomial> DivideMerge<R, M> {
     }
 
     /// The coefficient of the unread terms less the heads at the monomial that is read next.
-    pub(crate) fn coefficient(&self, next: Next<M>, steps: &mut Steps) -> R::E {
+    pub(crate) fn coefficient(&self, next: Next<M>, steps: &mut Steps) -> R::E
+        requires next { IsReadNext M.vector self.now.run.state next }
+        requires heard { NoneStuck self.now.run.state (Some (M.vector next.mono)) }
+        ensures belongs { R.belongs self.now.run.state.division.p result }
+        ensures value { R.value result ≡ read_coef self.now.run.state (M.vector next.mono) }
+    {
         let unread = self.unread_coefficient(next);
         if !next.headed {
             return unread;
@@ -113,7 +141,12 @@ impl<R: CoeffRing, M: Monomial> DivideMerge<R, M> {
         self.coefficients.add(unread, heads)
     }
 
-    fn unread_coefficient(&self, next: Next<M>) -> R::E {
+    // the coefficient of the unread term there, and zero where there is none
+    fn unread_coefficient(&self, next: Next<M>) -> R::E
+        requires next { IsReadNext M.vector self.now.run.state next }
+        ensures belongs { R.belongs self.now.run.state.division.p result }
+        ensures value { R.value result ≡ coef self.now.run.state.division.p self.now.run.state.unread (M.vector next.mono) }
+    {
         if next.unread {
             self.dividend.terms()[self.read].coef
         } else {
@@ -122,8 +155,17 @@ impl<R: CoeffRing, M: Monomial> DivideMerge<R, M> {
     }
 }
 
+// the place of a worker's first row in the divisor
+fn first_place(worker: usize, workers: usize) -> usize
+    ensures { result ≡ cond (eqb worker 0) workers worker }
+{
+    if worker == 0 { workers } else { worker }
+}
+
 // the greater of an unread monomial and the greatest head
-fn greater<M: Monomial>(unread: M, top: M, steps: &mut Steps) -> Next<M> {
+fn greater<M: Monomial>(unread: M, top: M, steps: &mut Steps) -> Next<M>
+    ensures { IsGreater M.vector M.order unread top result }
+{
     match unread.higher(top, steps) {
         Ordering::Less => Next {
             mono: top,
@@ -143,22 +185,26 @@ fn greater<M: Monomial>(unread: M, top: M, steps: &mut Steps) -> Next<M> {
     }
 }
 
-// the greatest of the monomials that there are
-fn greatest<M: Monomial>(a: Option<M>, b: Option<M>, steps: &mut Steps) -> Option<M> {
-    let Some(left) = a else {
-        return b;
-    };
-    let Some(right) = b else {
-        return a;
-    };
-    match left.higher(right, steps) {
-        Ordering::Less => b,
-        _ => a,
+// the greater of the monomials that there are
+fn greatest<M: Monomial>(a: Option<M>, b: Option<M>, steps: &mut Steps) -> Option<M>
+    ensures { IsGreatest M.order (vector_of M.vector a) (vector_of M.vector b) (vector_of M.vector result) }
+{
+    match a {
+        None => b,
+        Some(left) => match b {
+            None => Some(left),
+            Some(right) => match left.higher(right, steps) {
+                Ordering::Less => Some(right),
+                _ => Some(left),
+            },
+        },
     }
 }
 
 // whether the top of a mark is below what is read next
-fn is_top_low<M: Monomial>(next: Option<M>, top: Option<M>, steps: &mut Steps) -> bool {
+fn is_top_low<M: Monomial>(next: Option<M>, top: Option<M>, steps: &mut Steps) -> bool
+    ensures { IsTrue result ↔ IsLowTop M.order (vector_of M.vector next) (vector_of M.vector top) }
+{
     let Some(top) = top else {
         return true;
     };

@@ -8,7 +8,7 @@ ghost use Rattle.term_ring.specs.Names.{RingName, NoneBelow, ring_name};
 ghost use Rattle.quotient_row.specs.Ends as row_ends;
 ghost use Rattle.quotient_row.specs.Spelling as row_notes;
 ghost use Rattle.divide_merge.specs.Names.{row_identity};
-ghost use Rattle.divide_merge.specs.Runs.{Verdict, kept_of};
+ghost use Rattle.divide_merge.specs.Verdicts.{Verdict, kept_of};
 ghost use Rattle.divide_merge.specs.Merges.{IsSound, IsCause, Grows, IsOwed, taken_of, verdict_of};
 ghost use Rattle.divide_merge.specs.Reached.{DivideName, DivideReach, divide_name, divide_reached, Follows, Follows-itself};
 
@@ -68,16 +68,13 @@ impl<R: CoeffRing, M: Monomial> DivideMerge<R, M> {
         ensures grows { Grows self.old self.new }
         ensures reached { Follows (divide_reached self.old) (divide_reached self.new) }
         ensures cause { IsCause self.old self.new (verdict_of M.vector R.value result.answer) }
-        ensures over { self.new.run.over ≡ kept_of (verdict_of M.vector R.value result.answer) }
-        ensures again { (x : Verdict) → self.old.run.over ≡ Some x → self.new ≡ self.old }
+        ensures over { self.new.answer ≡ kept_of (verdict_of M.vector R.value result.answer) }
+        ensures again { (x : Verdict) → self.old.answer ≡ Some x → self.new ≡ self.old }
         ensures terms { result.terms ≡ length self.new.run.state.q }
         ensures receipt { result.merge.value ≡ self.new }
     {
         self.whole();
-        let answer = match self.over {
-            Some(answer) => answer,
-            None => self.run(rings, row, steps),
-        };
+        let answer = self.answer(rings, row, steps);
         DivideAdvanced {
             answer,
             terms: self.q.len() as u64,
@@ -100,6 +97,7 @@ impl<R: CoeffRing, M: Monomial> DivideMerge<R, M> {
         requires writer { IsWriterOf ring.now writer.old }
         requires reader { row_ends.IsReaderOf row.now reader.old }
         ensures run { self.new.run ≡ self.old.run }
+        ensures answer { self.new.answer ≡ self.old.answer }
         ensures spare { self.new.spare ≡ self.old.spare }
         ensures rings { self.new.rings ≡ self.old.rings }
         ensures row { self.new.row ≡ self.old.row }

@@ -1,14 +1,13 @@
 -- What a dividing worker knows of the quotient terms to come.
-use Rattle.std.proofs.Common.{◌≡◌, ◌≢◌, ◌⊎◌, inl, inr, ℕ, ◌+◌, ◌<◌, ◌≤◌, Bool, true, false, List, [], ◌∷◌, ◌++◌, length, take, Option, Some, None, ℤ, pos, refl, sym, ap, ◌∙◌, subst, arith, All, length-append, append_assoc, append-nil}
+use Rattle.std.proofs.Common.{◌≡◌, inl, inr, ℕ, ◌+◌, ◌<◌, ◌≤◌, Bool, true, false, List, [], ◌∷◌, ◌++◌, length, take, Option, Some, None, refl, sym, ap, ◌∙◌, subst, arith, All, length-append, append_assoc, append-nil}
 use Rattle.std.proofs.lemmas.List.Elements.{All-nil, All-cons}
 use Rattle.std.proofs.lemmas.List.{length_push, length-take-le}
 use mathlib.Core.List.{IsPrefix}
-use Rattle.sdmp_laws.specs.Order.{Order, ◌⋅◌, degree, Below}
+use Rattle.sdmp_laws.specs.Order.{Order, ◌⋅◌, degree}
 use Rattle.sdmp_laws.specs.Ring.{red}
-use Rattle.sdmp_laws.specs.Poly.{Term, total, coef, row, term_times, term_neg, negated, minus, AllBelow, AllDegrees, IsPoly, lm}
-use Rattle.sdmp_laws.specs.Division.{Division, IsAccepted, Turn, Turns, AtOrAbove}
+use Rattle.sdmp_laws.specs.Poly.{Term, coef, row, term_times, term_neg, negated, minus, AllBelow, AllDegrees, lm}
+use Rattle.sdmp_laws.specs.Division.{Division, IsAccepted, Turn, Turns}
 use Rattle.sdmp_laws.specs.LongDivision.{quotient_list}
-use Rattle.sdmp_laws.specs.Limits.{PassesBound}
 use Rattle.sdmp_laws.proofs.Ints.{red_zero}
 use Rattle.sdmp_laws.proofs.OrderLemmas.{order_facts, degree_times, numbers, Three, is_less, is_equal, is_greater}
 use Rattle.sdmp_laws.proofs.TermsLemmas.{total_above}
@@ -16,9 +15,8 @@ use Rattle.sdmp_laws.proofs.DegreeLemmas.{degrees_poly}
 use Rattle.sdmp_laws.proofs.LongLemmas.{quotient_list_is}
 use Rattle.divide_wholes.specs.Wholes.{AllUnderFront, AllBelowFront, IsBeyond}
 use Rattle.divide_wholes.specs.Row.{RowNote, RowTerm, RowFront, row_terms, front_after, known_after, RowMayFollow, RowCarryAfter, RowCarry}
-use Rattle.divide_wholes.proofs.RowLemmas.{row_terms-append, row_terms-front}
 use Rattle.divide_wholes.proofs.WorkerLemmas.{later_below}
-use Rattle.dividing_rounds.specs.Stalls.{IsLowered, IsHeld}
+use Rattle.dividing_rounds.specs.Stalls.{IsLowered}
 use Rattle.divide_workers.specs.Fronts.{PlainFront, front_mono, IsPastBy, UnderBy, IsAhead, IsPast, FrontFalls, may_stay}
 use Rattle.divide_workers.proofs.Falling.{weaker_past, at_then_at}
 

@@ -1,10 +1,9 @@
 -- Fronts that fall.
-use Rattle.std.proofs.Common.{◌≡◌, ◌⊎◌, inl, inr, ℕ, Bool, true, false, List, length, Option, Some, None, refl, sym, ap, ◌∙◌, subst}
+use Rattle.std.proofs.Common.{◌≡◌, inl, inr, ℕ, Bool, true, false, List, length, Option, Some, None, refl, sym, ap, ◌∙◌, subst}
 use Rattle.sdmp_laws.specs.Order.{Order, ◌⋅◌, Below}
 use Rattle.sdmp_laws.specs.Poly.{Term, lm}
 use Rattle.sdmp_laws.specs.Division.{Division, AtOrAbove}
 use Rattle.sdmp_laws.proofs.OrderLemmas.{order_facts}
-use Rattle.divide_workers.specs.declared.front.Front.{Front}
 use Rattle.divide_workers.specs.Fronts.{PlainFront, IsPastBy, IsPast, FrontFalls, may_stay}
 
 -- ---- at or below
@@ -58,6 +57,10 @@ pub falls_itself : (ord : Order) (a : Option PlainFront) → FrontFalls ord a a
 unfolding FrontFalls
 falls_itself ord None = tt
 falls_itself ord (Some a) = stays_itself a.is_strict ord a.mono
+
+pub falls_from_none : (ord : Order) (b : Option PlainFront) → FrontFalls ord None b
+unfolding FrontFalls
+falls_from_none ord b = tt
 
 falls_twice : (r s t : Bool) (ord : Order) (a b c : List ℕ) → IsPastBy (may_stay r s) ord b a → IsPastBy (may_stay s t) ord c b → IsPastBy (may_stay r t) ord c a
 unfolding IsPastBy

@@ -1,2 +1,11 @@
 pub mod Falling
 pub mod Paying
+pub mod Ahead
+pub mod Stepping
+pub mod Working
+pub mod Holding
+pub mod Hearing
+pub mod Rounding
+pub mod Bounding
+pub mod Teams
+pub mod Comparing

@@ -1,20 +1,20 @@
 -- Each note of a dividing worker is paid for.
-use Rattle.std.proofs.Common.{◌≡◌, ◌≢◌, ◌⊎◌, inl, inr, ℕ, ◌+◌, ◌-◌, ◌*◌, ◌<◌, ◌≤◌, Bool, true, false, true≢false, cond, ℤ, List, [], ◌∷◌, ◌++◌, length, Option, Some, None, refl, sym, ap, ◌∙◌, subst, arith, All, IsPermutation, length-append, append_assoc, append-nil}
+use Rattle.std.proofs.Common.{◌≡◌, ◌≢◌, ◌⊎◌, inl, inr, ℕ, ◌+◌, ◌<◌, ◌≤◌, true, true≢false, ℤ, List, [], ◌∷◌, ◌++◌, length, Option, Some, None, refl, sym, ap, ◌∙◌, subst, arith, All, IsPermutation, length-append, append_assoc, append-nil}
 use Rattle.std.proofs.lemmas.List.Elements.{All-nil, All-cons, All-head, All-tail, All-append, All-weaker}
 use Rattle.std.proofs.lemmas.List.Sorted.{All-permutation, IsPermutation-refl, IsPermutation-append_left, IsPermutation-append_right, IsPermutation-trans, length_permutation}
 use Rattle.sdmp_laws.specs.Order.{Order, alike, Below}
-use Rattle.sdmp_laws.specs.Poly.{Term, times, row, is_zero}
+use Rattle.sdmp_laws.specs.Poly.{Term, times, row}
 use Rattle.sdmp_laws.specs.Division.{Division, AtOrAbove, AllAtOrBelow}
 use Rattle.sdmp_laws.proofs.OrderLemmas.{order_facts, alike_same, numbers, Three, is_less, is_equal, is_greater}
 use Rattle.sdmp_laws.proofs.Tests.{or_out}
 use Rattle.sdmp_laws.proofs.PolyLemmas.{times_append_left}
-use Rattle.sdmp_laws.proofs.ListLemmas.{All-back, length-row, length-times}
-use Rattle.whole_laws.specs.Notes.{Note, TermNote, MarkNote, EndNote, terms_in, has, TopFalls}
-use Rattle.whole_laws.proofs.NotesLemmas.{terms_in-append, terms_in-mark}
+use Rattle.sdmp_laws.proofs.ListLemmas.{All-back}
+use Rattle.whole_laws.specs.Notes.{Note, TermNote, MarkNote, EndNote, has, TopFalls}
 use Rattle.divide_wholes.specs.Wholes.{mark_after, latest_mark}
-use Rattle.divide_wholes.specs.Workers.{WorkerState, MarkRises, IsTop, worker_rows, sum_at}
+use Rattle.divide_wholes.specs.Workers.{WorkerState, MarkRises, IsUnreadTop, worker_rows, sum_at}
 use Rattle.divide_workers.specs.Fronts.{PlainFront, IsPast}
-use Rattle.dividing_rounds.specs.Counting.{NotesCounted, handed_out, CountStart, CountLearn, CountHand, CountSend, CountMark}
+use Rattle.dividing_rounds.specs.Counting.{handed_out}
+use Rattle.dividing_rounds.proofs.CountingLemmas.{count_start, count_learn, count_hand, count_send, count_mark, counted_sent}
 use Rattle.divide_workers.specs.Paying.{AllAtTop, HasPaid, IsFewSent}
 
 -- ---- the latest mark
@@ -63,15 +63,15 @@ both_ways ord a b (inr h) (inl e) = sym e
 both_ways ord a b (inr h) (inr k) = absurd ((order_facts ord).irreflexive a ((order_facts ord).transitive a b a h k))
 
 -- there is one top
-pub one_top : (ord : Order) (U : List Term) (a b : Option (List ℕ)) → IsTop ord U a → IsTop ord U b → a ≡ b
-unfolding IsTop
+pub one_top : (ord : Order) (U : List Term) (a b : Option (List ℕ)) → IsUnreadTop ord U a → IsUnreadTop ord U b → a ≡ b
+unfolding IsUnreadTop
 one_top ord U None None h k = refl
 one_top ord U None (Some y) h k = absurd (nothing_there y U h k.0)
 one_top ord U (Some x) None h k = absurd (nothing_there x U k h.0)
 one_top ord U (Some x) (Some y) h k = ap (λ (m : List ℕ). Some m) (both_ways ord x y (at_or_below_in ord y x U k.1 h.0) (at_or_below_in ord x y U h.1 k.0))
 
-pub top_at_top : (ord : Order) (U : List Term) (a : Option (List ℕ)) → IsTop ord U a → AllAtTop ord a U
-unfolding IsTop AllAtTop
+pub top_at_top : (ord : Order) (U : List Term) (a : Option (List ℕ)) → IsUnreadTop ord U a → AllAtTop ord a U
+unfolding IsUnreadTop AllAtTop
 top_at_top ord U None h = h
 top_at_top ord U (Some x) h = h.1
 
@@ -83,8 +83,8 @@ less_at_top ord (Some x) U taken rest p some h =
     at_each ord x rest (All-back (λ (t : Term). AtOrAbove ord t.monomial x) taken rest (All-permutation (λ (t : Term). AtOrAbove ord t.monomial x) U (taken ++ rest) p (each_at ord x U h)))
 
 -- ---- marks that tell something new
-falls_from : (ord : Order) (U : List Term) (old top : Option (List ℕ)) → AllAtTop ord old U → IsTop ord U top → (old ≡ top → ⊥) → TopFalls ord old top
-unfolding IsTop AllAtTop TopFalls
+falls_from : (ord : Order) (U : List Term) (old top : Option (List ℕ)) → AllAtTop ord old U → IsUnreadTop ord U top → (old ≡ top → ⊥) → TopFalls ord old top
+unfolding IsUnreadTop AllAtTop TopFalls
 falls_from ord U None None h k n = n refl
 falls_from ord U None (Some x) h k n = nothing_there x U h k.0
 falls_from ord U (Some a) None h k n = tt
@@ -94,7 +94,7 @@ falls_from ord U (Some a) (Some x) h k n = pick (at_or_below_in ord a x U h k.0)
     pick (inl e) = absurd (n (ap (λ (m : List ℕ). Some m) (sym e)))
     pick (inr b) = b
 
-pub mark_rises : (s : WorkerState) (front : Option PlainFront) (top : Option (List ℕ)) → HasPaid s front → IsTop s.division.ord s.unread top → (latest_mark s.sent ≡ (length s.known, top) → ⊥) → MarkRises s.division.ord (latest_mark s.sent) (length s.known) top
+pub mark_rises : (s : WorkerState) (front : Option PlainFront) (top : Option (List ℕ)) → HasPaid s front → IsUnreadTop s.division.ord s.unread top → (latest_mark s.sent ≡ (length s.known, top) → ⊥) → MarkRises s.division.ord (latest_mark s.sent) (length s.known) top
 unfolding MarkRises
 mark_rises s front top p t n = pick (split (latest_mark s.sent).0 (length s.known) p.mark_known (numbers (latest_mark s.sent).0 (length s.known)))
   where
@@ -107,131 +107,9 @@ mark_rises s front top p t n = pick (split (latest_mark s.sent).0 (length s.know
     pick (inl h) = inl h
     pick (inr e) = inr (e, falls_from s.division.ord s.unread (latest_mark s.sent).1 top (p.mark_top e) t (λ q. n (λ i. (e i, q i))))
 
--- ---- the count of notes
-one_more : (k r u v : ℕ) → u ≤ k * r → v ≡ u + r → (v ≤ (k + 1) * r) × ((k + 1) * r - v ≡ k * r - u)
-one_more k r u v h e = let m = times_more k r in (omega (arith, h, e, m), omega (arith, h, e, m))
-  where
-    times_more : (a b : ℕ) → (a + 1) * b ≡ a * b + b
-    times_more a b = omega arith
-
-pub count_start : CountStart
-unfolding handed_out worker_rows terms_in latest_mark mark_after IsTop
-count_start d W w = record {
-  holds = omega arith;
-  terms = omega arith;
-  marks = omega arith;
-  paid_before = omega arith;
-  unchanged = λ e. (refl, refl);
-}
-
-pub count_learn : CountLearn
-unfolding handed_out worker_rows
-count_learn v paid t unread c h =
-    let r : ℕ = length (worker_rows v) in
-    let k : length (v.known ++ t ∷ []) ≡ length v.known + 1 = length-append v.known (t ∷ []) in
-    let u : length unread ≡ length v.unread + r = length_permutation (v.unread ++ row t (worker_rows v)) unread h ∙ length-append v.unread (row t (worker_rows v)) ∙ ap (λ (n : ℕ). length v.unread + n) (length-row t (worker_rows v)) in
-    let m = one_more (length v.known) r (length v.unread) (length unread) c.holds u in
-    let same : length (v.known ++ t ∷ []) * r - length unread ≡ length v.known * r - length v.unread = ap (λ (n : ℕ). n * r - length unread) k ∙ m.1 in
-    let before = c.paid_before in
-    record {
-      holds = subst (λ (n : ℕ). length unread ≤ n * r) (sym k) m.0;
-      terms = subst (λ (n : ℕ). length (terms_in v.sent) + length v.kept ≤ n) (sym same) c.terms;
-      marks = c.marks;
-      paid_before = later (length v.known * r - length v.unread) (length (v.known ++ t ∷ []) * r - length unread) (length v.known) (length (v.known ++ t ∷ [])) same k before;
-      unchanged = λ e. absurd (never (length v.known * r - length v.unread) (length (v.known ++ t ∷ []) * r - length unread) (length v.known) (length (v.known ++ t ∷ [])) same k before e);
-    }
-  where
-    later : (a b j k : ℕ) → b ≡ a → k ≡ j + 1 → paid ≤ j + a → paid ≤ k + b
-    later a b j k e f h = omega (arith, e, f, h)
-
-    never : (a b j k : ℕ) → b ≡ a → k ≡ j + 1 → paid ≤ j + a → paid ≡ k + b → ⊥
-    never a b j k e f h z = omega (arith, e, f, h, z)
-
-sum_at_short : (c : ℤ) (x : List ℕ) → length (sum_at c x) ≤ 1
-unfolding sum_at
-sum_at_short c x = pick (is_zero c)
-  where
-    pick : (b : Bool) → length {A = Term} (cond b [] (record { monomial = x; coefficient = c } ∷ [])) ≤ 1
-    pick true = omega arith
-    pick false = omega arith
-
 pub some_length : {X : Type 0} (xs : List X) → xs ≢ [] → 0 < length xs
 some_length [] n = absurd (n refl)
 some_length (x ∷ xs) n = omega arith
-
-pub count_hand : CountHand
-unfolding handed_out worker_rows
-count_hand v paid c x taken unread n none some h =
-    let short = sum_at_short c x in let t = some_length taken some in
-    let u : length taken + length unread ≡ length v.unread = sym (length-append taken unread) ∙ length_permutation v.unread (taken ++ unread) h in
-    let all : ℕ = length v.known * length (worker_rows v) in
-    let a = n.holds in let b = n.terms in let e = n.paid_before in
-    record {
-      holds = holds all (length v.unread) (length taken) (length unread) a u;
-      terms = terms all (length v.unread) (length taken) (length unread) (length (sum_at c x)) (length (terms_in v.sent)) (length v.kept) a u short t b;
-      marks = n.marks;
-      paid_before = before all (length v.unread) (length taken) (length unread) (length v.known) a u e;
-      unchanged = λ z. absurd (never all (length v.unread) (length taken) (length unread) (length v.known) a u t e z);
-    }
-  where
-    holds : (all old taken new : ℕ) → old ≤ all → taken + new ≡ old → new ≤ all
-    holds all old taken new a u = omega (arith, a, u)
-
-    terms : (all old taken new kept sent was : ℕ) → old ≤ all → taken + new ≡ old → kept ≤ 1 → 0 < taken → sent + was ≤ all - old → sent + kept ≤ all - new
-    terms all old taken new kept sent was a u s t b = omega (arith, a, u, s, t, b)
-
-    before : (all old taken new k : ℕ) → old ≤ all → taken + new ≡ old → paid ≤ k + (all - old) → paid ≤ k + (all - new)
-    before all old taken new k a u e = omega (arith, a, u, e)
-
-    never : (all old taken new k : ℕ) → old ≤ all → taken + new ≡ old → 0 < taken → paid ≤ k + (all - old) → paid ≡ k + (all - new) → ⊥
-    never all old taken new k a u t e z = omega (arith, a, u, t, e, z)
-
-pub count_send : CountSend
-unfolding handed_out worker_rows terms_in
-count_send v paid t n one =
-    let l : length (v.sent ++ TermNote t ∷ []) ≡ length v.sent + 1 = length-append v.sent (TermNote t ∷ []) in
-    let k : length (terms_in (v.sent ++ TermNote t ∷ [])) ≡ length (terms_in v.sent) + 1 = ap (λ (L : List Term). length L) (terms_in-append v.sent (TermNote t ∷ [])) ∙ length-append (terms_in v.sent) (t ∷ []) in
-    let o : length v.kept ≡ 1 = ap (λ (L : List Term). length L) one in
-    record {
-      holds = n.holds;
-      terms = terms (length (terms_in v.sent)) (length v.kept) (length (terms_in (v.sent ++ TermNote t ∷ []))) (length v.known * length (worker_rows v) - length v.unread) k o n.terms;
-      marks = let a = n.marks in omega (arith, k, l, a);
-      paid_before = n.paid_before;
-      unchanged = λ e. subst (λ (m : ℕ × Option (List ℕ)). (m.0 ≡ length v.known) × IsTop v.division.ord v.unread m.1) (sym (mark_at_term v.sent t)) (n.unchanged e);
-    }
-  where
-    terms : (a kept b all : ℕ) → b ≡ a + 1 → kept ≡ 1 → a + kept ≤ all → b + 0 ≤ all
-    terms a kept b all k o h = omega (arith, k, o, h)
-
-pub count_mark : CountMark
-unfolding handed_out worker_rows TopFalls MarkRises
-count_mark v paid top n t r =
-    let k : ℕ = length v.known in let all : ℕ = k * length (worker_rows v) - length v.unread in
-    let mark = mark_at_mark v.sent k top in
-    let l : length (v.sent ++ MarkNote k top ∷ []) ≡ length v.sent + 1 = length-append v.sent (MarkNote k top ∷ []) in
-    let same : length (terms_in (v.sent ++ MarkNote k top ∷ [])) ≡ length (terms_in v.sent) = ap (λ (L : List Term). length L) (terms_in-mark v.sent k top) in
-    record {
-      holds = n.holds;
-      terms = subst (λ (m : ℕ). m + length v.kept ≤ all) (sym same) n.terms;
-      marks = marks (length v.sent) (length (terms_in v.sent)) (length (v.sent ++ MarkNote k top ∷ [])) (length (terms_in (v.sent ++ MarkNote k top ∷ []))) (k + all) l same n.marks n.paid_before (fresh (k + all) n.unchanged);
-      paid_before = omega arith;
-      unchanged = λ e. (ap (λ (m : ℕ × Option (List ℕ)). m.0) mark, subst (λ (m : ℕ × Option (List ℕ)). IsTop v.division.ord v.unread m.1) (sym mark) t);
-    }
-  where
-    -- the mark rises, so the state isn't that of the latest one
-    fresh : (now : ℕ) → (paid ≡ now → ((latest_mark v.sent).0 ≡ length v.known) × IsTop v.division.ord v.unread (latest_mark v.sent).1) → paid ≡ now → ⊥
-    fresh now same e = let s = same e in stays (latest_mark v.sent) s.0 (one_top v.division.ord v.unread (latest_mark v.sent).1 top s.1 t) r
-      where
-        falls_not : (ord : Order) (a : Option (List ℕ)) → TopFalls ord a a → ⊥
-        falls_not ord None f = f
-        falls_not ord (Some m) f = (order_facts ord).irreflexive m f
-
-        stays : (old : ℕ × Option (List ℕ)) → old.0 ≡ length v.known → old.1 ≡ top → MarkRises v.division.ord old (length v.known) top → ⊥
-        stays old e f (inl h) = omega (arith, e, h)
-        stays old e f (inr h) = falls_not v.division.ord top (subst (λ (a : Option (List ℕ)). TopFalls v.division.ord a top) f h.1)
-
-    marks : (sent terms sent' terms' now : ℕ) → sent' ≡ sent + 1 → terms' ≡ terms → sent ≤ terms + paid → paid ≤ now → (paid ≡ now → ⊥) → sent' ≤ terms' + now
-    marks sent terms sent' terms' now l s a b n = omega (arith, l, s, a, b, n)
 
 -- ---- steps
 -- a term is learned, and the front falls
@@ -301,7 +179,7 @@ send_pays s front t p one =
     }
 
 -- a mark that tells something new is sent
-pub mark_pays : (s : WorkerState) (front : Option PlainFront) (top : Option (List ℕ)) → HasPaid s front → IsTop s.division.ord s.unread top → MarkRises s.division.ord (latest_mark s.sent) (length s.known) top
+pub mark_pays : (s : WorkerState) (front : Option PlainFront) (top : Option (List ℕ)) → HasPaid s front → IsUnreadTop s.division.ord s.unread top → MarkRises s.division.ord (latest_mark s.sent) (length s.known) top
     → HasPaid (record s { sent = s.sent ++ MarkNote (length s.known) top ∷ [] }) front
 unfolding worker_rows
 mark_pays s front top p t r =
@@ -330,10 +208,4 @@ start_pays d W w = record {
 
 -- ---- the count
 pub few_sent : (s : WorkerState) (front : Option PlainFront) → HasPaid s front → IsFewSent s
-unfolding handed_out
-few_sent s front p =
-    let c = p.counted in
-    count (length s.sent) (length (terms_in s.sent)) (length s.kept) p.paid (length s.unread) (length s.known) (length s.known * length (worker_rows s)) c.terms c.marks c.paid_before
-  where
-    count : (sent terms kept paid unread known all : ℕ) → terms + kept ≤ all - unread → sent ≤ terms + paid → paid ≤ known + (all - unread) → sent ≤ known + 2 * all
-    count sent terms kept paid unread known all a b c = omega (arith, a, b, c)
+few_sent s front p = counted_sent s p.paid p.counted

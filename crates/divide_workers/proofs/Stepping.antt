@@ -1,27 +1,28 @@
 -- What always holds of a dividing worker stays at each step.
-use Rattle.std.proofs.Common.{◌≡◌, ◌≢◌, ◌⊎◌, inl, inr, ℕ, ◌+◌, ◌<◌, ◌≤◌, Bool, true, false, List, [], ◌∷◌, ◌++◌, length, Option, Some, None, refl, sym, ap, ◌∙◌, subst, arith, All, IsPermutation, length-append, append_assoc, append-nil}
+use Rattle.std.proofs.Common.{◌≡◌, ◌≢◌, ℕ, ◌+◌, ◌<◌, ◌≤◌, true, false, List, [], ◌∷◌, ◌++◌, length, Option, Some, None, refl, sym, ap, ◌∙◌, subst, arith, All, IsPermutation, length-append, append_assoc}
 use Rattle.std.proofs.lemmas.List.{length_push}
 use mathlib.Core.List.{IsPrefix}
 use Rattle.sdmp_laws.specs.Order.{◌⋅◌}
 use Rattle.sdmp_laws.specs.Poly.{Term, coef, row, AllBelow, lm}
-use Rattle.sdmp_laws.specs.Division.{Division, IsAccepted}
+use Rattle.sdmp_laws.specs.Division.{Division}
 use Rattle.sdmp_laws.specs.LongDivision.{quotient_list}
 use Rattle.sdmp_laws.specs.Limits.{PassesBound}
 use Rattle.sdmp_laws.proofs.PlaceLemmas.{length_prefix}
-use Rattle.whole_laws.specs.Notes.{TermNote, MarkNote, Carry, MayFollow}
+use Rattle.whole_laws.specs.Notes.{TermNote, MarkNote, MayFollow}
 use Rattle.divide_wholes.specs.Wholes.{latest_mark}
-use Rattle.divide_wholes.specs.Row.{RowNote, RowTerm, RowFront, row_terms, front_after, known_after, RowMayFollow, RowCarry}
-use Rattle.divide_wholes.specs.Workers.{WorkerState, WorkerWhole, IsTop, worker_rows, worker_script, sum_at}
+use Rattle.divide_wholes.specs.Row.{RowNote, RowTerm, RowFront, row_terms, front_after, known_after, RowMayFollow, RowCarryAfter, RowCarry}
+use Rattle.divide_wholes.specs.Workers.{WorkerState, IsUnreadTop, worker_rows, worker_script, sum_at}
 use Rattle.divide_wholes.proofs.RowLemmas.{row_terms-append, row_terms-front}
 use Rattle.divide_wholes.proofs.MarkLemmas.{worker_learn, worker_hand, worker_send, worker_mark}
 use Rattle.dividing_rounds.specs.Stalls.{IsLowered}
-use Rattle.divide_workers.specs.Fronts.{PlainFront, front_mono, IsAhead, IsPast, FrontFalls}
-use Rattle.divide_workers.specs.Paying.{HasRows, HasPaid}
+use Rattle.divide_workers.specs.Fronts.{PlainFront, IsAhead, IsPast, FrontFalls}
+use Rattle.divide_workers.specs.Paying.{HasRows}
+use Rattle.divide_merge.specs.Names.{RowIdentity}
 use Rattle.divide_workers.specs.Views.{WorkerView}
 use Rattle.divide_workers.specs.Working.{IsWorking}
 use Rattle.divide_workers.proofs.Falling.{IsFrontVector, past_falls}
 use Rattle.divide_workers.proofs.Paying.{learn_pays, fall_pays, hand_pays, send_pays, mark_pays, mark_rises}
-use Rattle.divide_workers.proofs.Ahead.{ahead_back, begins_longer, same_begin, followed, known_length, ahead_of_term, ahead_of_front, past_is_beyond, front_at_term, front_at_front, falls_lowered, lowered_again}
+use Rattle.divide_workers.proofs.Ahead.{ahead_back, same_begin, followed, known_length, ahead_of_term, ahead_of_front, past_is_beyond, front_at_term, front_at_front, falls_lowered, lowered_again}
 
 shorter : {A : Type 0} (xs ys zs : List A) → IsPrefix (xs ++ ys) zs → IsPrefix xs zs
 shorter xs ys zs p = (ys ++ p.0, sym (append_assoc xs ys p.0) ∙ p.1)
@@ -55,10 +56,10 @@ one_more_term notes t = ap (λ (L : List Term). length L) (row_terms-append note
 
 -- it learns the next quotient term, which may be known
 pub learns : (lim : ℕ) (v : WorkerView) (t : Term) (unread : List Term) (front : PlainFront) (spare : ℕ) → IsWorking lim v → IsPrefix (v.state.known ++ t ∷ []) (quotient_list v.state.division) → (PassesBound v.state.division (v.state.known ++ t ∷ []) → ⊥)
-    → IsPermutation (v.state.unread ++ row t (worker_rows v.state)) unread → v.row.places ≤ length v.notes + spare → Hears v.state.division v.front (front_of_term v.state.division t) front
+    → IsPermutation (v.state.unread ++ row t (worker_rows v.state)) unread → Hears v.state.division v.front (front_of_term v.state.division t) front
     → IsWorking lim (record v { state = record v.state { known = v.state.known ++ t ∷ []; unread = unread }; front = Some front; spare = spare })
 unfolding worker_rows worker_script
-learns lim v t unread front spare w i within h room hears =
+learns lim v t unread front spare w i within h hears =
     let d = v.state.division in let l = length_push v.state.known t in record {
       whole = worker_learn v.state t unread w.whole i h;
       fit = w.fit;
@@ -71,19 +72,18 @@ learns lim v t unread front spare w i within h room hears =
       lowest = lowered_again d.ord v.front (Some front) (front_after d None v.notes) hears.falls w.lowest;
       fronted = λ n e. not_none front e;
       enough = λ r. let k = w.enough r in omega (arith, k, l);
-      room = λ r. room;
       paid = learn_pays v.state v.front (Some front) t unread w.paid (λ x. past_falls d (worker_rows v.state) v.front (Some front) x hears.old_vector hears.new_vector hears.falls) h;
     }
 
 -- the row tells a term that it knows
 pub hears_term : (lim : ℕ) (v : WorkerView) (t : Term) (front : PlainFront) (count loads spare : ℕ) → IsWorking lim v → RowCarry v.state.division v.row.name.start (v.notes ++ RowTerm t ∷ [])
-    → v.row.name.start + length (row_terms v.notes) < length v.state.known → v.row.places ≤ length v.notes + 1 + spare → Hears v.state.division v.front (front_of_term v.state.division t) front
+    → v.row.name.start + length (row_terms v.notes) < length v.state.known → Hears v.state.division v.front (front_of_term v.state.division t) front
     → IsWorking lim (record v { notes = v.notes ++ RowTerm t ∷ []; count = count; loads = loads; front = Some front; spare = spare })
 unfolding worker_rows worker_script RowMayFollow
-hears_term lim v t front count loads spare w c below room hears =
+hears_term lim v t front count loads spare w c below hears =
     let d = v.state.division in
     let may = followed d v.row.name.start v.notes (RowTerm t) c in
-    let l = length_push v.notes (RowTerm t) in let k = one_more_term v.notes t in
+    let k = one_more_term v.notes t in
     let q = length_prefix v.state.known (quotient_list d) w.whole.knows in
     let n = known_length d v.row.name.start v.notes (omega (arith, below, q)) in record {
       whole = w.whole;
@@ -96,7 +96,6 @@ hears_term lim v t front count loads spare w c below room hears =
       lowest = subst (IsLowered d.ord (Some front.mono)) (sym (front_at_term d v.notes t)) (falls_lowered d.ord (front_of_term d t) (Some front) hears.falls_news);
       fronted = λ m e. not_none front e;
       enough = λ r. omega (arith, k, below);
-      room = λ r. omega (arith, l, room);
       paid = fall_pays v.state v.front (Some front) w.paid (λ x. past_falls d (worker_rows v.state) v.front (Some front) x hears.old_vector hears.new_vector hears.falls);
     }
 
@@ -114,13 +113,12 @@ next_term lim v t w c e =
 
 -- the row tells a front
 pub hears_front : (lim : ℕ) (v : WorkerView) (m : List ℕ) (front : PlainFront) (count loads spare : ℕ) → IsWorking lim v → HasRows v.state → RowCarry v.state.division v.row.name.start (v.notes ++ RowFront m ∷ [])
-    → v.row.places ≤ length v.notes + 1 + spare → Hears v.state.division v.front (record { mono = m; is_strict = false }) front → IsPrefix (known_after v.state.division v.row.name.start v.notes) (quotient_list v.state.division)
+    → Hears v.state.division v.front (record { mono = m; is_strict = false }) front → IsPrefix (known_after v.state.division v.row.name.start v.notes) (quotient_list v.state.division)
     → IsWorking lim (record v { notes = v.notes ++ RowFront m ∷ []; count = count; loads = loads; front = Some front; spare = spare })
 unfolding worker_rows worker_script RowMayFollow
-hears_front lim v m front count loads spare w r c room hears i =
+hears_front lim v m front count loads spare w r c hears i =
     let d = v.state.division in
     let may = followed d v.row.name.start v.notes (RowFront m) c in
-    let l = length_push v.notes (RowFront m) in
     let k : length (row_terms (v.notes ++ RowFront m ∷ [])) ≡ length (row_terms v.notes) = ap (λ (L : List Term). length L) (row_terms-front v.notes m) in
     let n = row_known lim v w (w.enough r) i in record {
       whole = w.whole;
@@ -133,9 +131,44 @@ hears_front lim v m front count loads spare w r c room hears i =
       lowest = subst (IsLowered d.ord (Some front.mono)) (sym (front_at_front d v.notes m)) (falls_lowered d.ord (record { mono = m; is_strict = false }) (Some front) hears.falls_news);
       fronted = λ o e. not_none front e;
       enough = λ s. let a = w.enough s in omega (arith, k, a);
-      room = λ s. omega (arith, l, room);
       paid = fall_pays v.state v.front (Some front) w.paid (λ x. past_falls d (worker_rows v.state) v.front (Some front) x hears.old_vector hears.new_vector hears.falls);
     }
+
+-- it takes over a front that holds for the terms to come
+pub takes_front : (lim : ℕ) (v : WorkerView) (news front : PlainFront) → IsWorking lim v → ((later : List Term) → v.state.known ++ later ≡ quotient_list v.state.division → IsAhead v.state.division (Some news) later) → Hears v.state.division v.front news front
+    → IsWorking lim (record v { front = Some front })
+unfolding worker_rows worker_script
+takes_front lim v news front w holds hears = record {
+  whole = w.whole;
+  fit = w.fit;
+  script = w.script;
+  row_division = w.row_division;
+  within = w.within;
+  ahead = λ later e. hears.says later (w.ahead later e) (holds later e);
+  carried = w.carried;
+  lowest = lowered_again v.state.division.ord v.front (Some front) (front_after v.state.division None v.notes) hears.falls w.lowest;
+  fronted = λ n e. not_none front e;
+  enough = w.enough;
+  paid = fall_pays v.state v.front (Some front) w.paid (λ x. past_falls v.state.division (worker_rows v.state) v.front (Some front) x hears.old_vector hears.new_vector hears.falls);
+}
+
+-- it goes on with another row, of which it knows no note
+pub takes_row : (lim : ℕ) (v : WorkerView) (row : RowIdentity) (count loads : ℕ) (told : List RowNote) → IsWorking lim v → row.name.division ≡ v.state.division → (HasRows v.state → row.name.start ≤ length v.state.known)
+    → IsWorking lim (record v { row = row; notes = []; count = count; loads = loads; told = told })
+unfolding worker_rows worker_script RowCarryAfter front_after row_terms IsLowered
+takes_row lim v row count loads told w division start = record {
+  whole = w.whole;
+  fit = w.fit;
+  script = w.script;
+  row_division = division;
+  within = w.within;
+  ahead = w.ahead;
+  carried = tt;
+  lowest = tt;
+  fronted = w.fronted;
+  enough = λ r. let s = start r in omega (arith, s);
+  paid = w.paid;
+}
 
 -- nothing that it holds changes, but counts of its ends
 pub ends_change : (lim : ℕ) (v : WorkerView) (head looks count loads : ℕ) (told : List RowNote) → IsWorking lim v → IsWorking lim (record v { head = head; full_looks = looks; count = count; loads = loads; told = told })
@@ -151,7 +184,6 @@ ends_change lim v head looks count loads told w = record {
   lowest = w.lowest;
   fronted = w.fronted;
   enough = w.enough;
-  room = w.room;
   paid = w.paid;
 }
 
@@ -181,7 +213,6 @@ hands lim v x taken unread f is vector w none l h at below some past =
       lowest = w.lowest;
       fronted = w.fronted;
       enough = w.enough;
-      room = w.room;
       paid = hand_pays v.state v.front x taken unread (coef d.p v.state.unread x) w.paid none h at some past;
     }
 
@@ -211,7 +242,6 @@ sends_term lim v t head looks w one = record {
   lowest = w.lowest;
   fronted = w.fronted;
   enough = w.enough;
-  room = w.room;
   paid = send_pays v.state v.front t w.paid one;
 }
 
@@ -219,7 +249,7 @@ pub may_send_term : (lim : ℕ) (v : WorkerView) (t : Term) → IsWorking lim v 
 may_send_term lim v t w one = (worker_send v.state t w.whole one).0
 
 -- it sends a mark that tells something new
-pub sends_mark : (lim : ℕ) (v : WorkerView) (top : Option (List ℕ)) (head looks : ℕ) → IsWorking lim v → v.state.kept ≡ [] → IsTop v.state.division.ord v.state.unread top → (latest_mark v.state.sent ≡ (length v.state.known, top) → ⊥)
+pub sends_mark : (lim : ℕ) (v : WorkerView) (top : Option (List ℕ)) (head looks : ℕ) → IsWorking lim v → v.state.kept ≡ [] → IsUnreadTop v.state.division.ord v.state.unread top → (latest_mark v.state.sent ≡ (length v.state.known, top) → ⊥)
     → IsWorking lim (record v { state = record v.state { sent = v.state.sent ++ MarkNote (length v.state.known) top ∷ [] }; head = head; full_looks = looks })
 unfolding worker_rows worker_script
 sends_mark lim v top head looks w none t n =
@@ -234,10 +264,9 @@ sends_mark lim v top head looks w none t n =
       lowest = w.lowest;
       fronted = w.fronted;
       enough = w.enough;
-      room = w.room;
       paid = mark_pays v.state v.front top w.paid t r;
     }
 
-pub may_send_mark : (lim : ℕ) (v : WorkerView) (top : Option (List ℕ)) → IsWorking lim v → v.state.kept ≡ [] → IsTop v.state.division.ord v.state.unread top → (latest_mark v.state.sent ≡ (length v.state.known, top) → ⊥)
+pub may_send_mark : (lim : ℕ) (v : WorkerView) (top : Option (List ℕ)) → IsWorking lim v → v.state.kept ≡ [] → IsUnreadTop v.state.division.ord v.state.unread top → (latest_mark v.state.sent ≡ (length v.state.known, top) → ⊥)
     → MayFollow (worker_script v.state) v.state.sent (MarkNote (length v.state.known) top)
 may_send_mark lim v top w none t n = (worker_mark v.state top w.whole none t (mark_rises v.state v.front top w.paid t n)).0

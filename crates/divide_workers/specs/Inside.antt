@@ -2,7 +2,6 @@
 use Rattle.std.specs.Prelude.{◌≡◌, ℕ, ◌+◌, ℤ, List, [], ◌∷◌, length, Option, Some, None}
 use Rattle.sdmp_laws.specs.Order.{Order}
 use Rattle.sdmp_laws.specs.Poly.{Term, lm}
-use Rattle.whole_laws.specs.Notes.{Script, ProductScript, QuotientScript}
 use Rattle.divide_wholes.specs.Row.{row_terms}
 use Rattle.divide_wholes.specs.Wholes.{latest_mark}
 use Rattle.divide_wholes.specs.Workers.{WorkerState, worker_rows}
@@ -17,22 +16,17 @@ use Rattle.quotient_row.specs.Spelling.{notes_of as row_notes_of}
 use Rattle.quotient_row.specs.Ends.{known, count_seen, count_loads, told_published}
 use Rattle.quotient_row.specs.declared.row.RowReader.{RowReader}
 use Rattle.divide_merge.specs.Names.{script_division, reader_row, IsLooking}
-use Rattle.divide_workers.specs.Fronts.{plain_front}
-use Rattle.divide_workers.specs.Views.{WorkerView}
+use Rattle.divide_workers.specs.Fronts.{plain_front, vector_of}
+use Rattle.divide_workers.specs.Views.{WorkerView, script_workers}
 use Rattle.divide_workers.specs.Working.{IsWorking}
 use Rattle.divide_workers.specs.declared.front.Front.{Front}
 use Rattle.divide_workers.specs.declared.mark.Mark.{Mark}
 
--- how many workers a script is one of
-abbrev pub script_workers : Script → ℕ
-script_workers (ProductScript m W w) = W
-script_workers (QuotientScript d W w) = W
+abbrev pub kept_terms : {M E : Type 0} → (M → List ℕ) → (E → ℤ) → Option (TermOf M E) → List Term
+kept_terms vector value None = []
+kept_terms vector value (Some t) = term_of vector value t ∷ []
 
 module _ {X M E : Type 0} (vector : M → List ℕ) (value : E → ℤ) where
-  abbrev pub kept_terms : Option (TermOf M E) → List Term
-  kept_terms None = []
-  kept_terms (Some t) = term_of vector value t ∷ []
-
   abbrev pub state_of : ℕ → QuotientState → Writer X M E → Option (TermOf M E) → WorkerState
   state_of worker rows writer kept =
       record {
@@ -41,7 +35,7 @@ module _ {X M E : Type 0} (vector : M → List ℕ) (value : E → ℤ) where
         worker = worker;
         known = rows.learned;
         unread = rows.unread;
-        kept = kept_terms kept;
+        kept = kept_terms vector value kept;
         sent = notes_of vector value (sent writer);
       }
 
@@ -63,11 +57,7 @@ module _ {X M E : Type 0} (vector : M → List ℕ) (value : E → ℤ) where
 
 -- a mark as plain data
 abbrev pub mark_of : {M : Type 0} → (M → List ℕ) → Mark M → ℕ × Option (List ℕ)
-mark_of vector m = (m.known, top_of vector m.top)
-  where
-    top_of : {M : Type 0} → (M → List ℕ) → Option M → Option (List ℕ)
-    top_of vector None = None
-    top_of vector (Some top) = Some (vector top)
+mark_of vector m = (m.known, vector_of vector m.top)
 
 abbrev pub KeptBelongs : {M E : Type 0} → (E → Type 0) → Option (TermOf M E) → Type 0
 KeptBelongs belongs None = Unit {0}

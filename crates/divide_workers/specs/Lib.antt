@@ -4,3 +4,6 @@ pub mod Views
 pub mod Working
 pub mod Inside
 pub mod Steps
+pub mod Learning
+pub mod Stops
+pub mod Rounds

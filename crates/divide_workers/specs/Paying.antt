@@ -4,7 +4,7 @@ use Rattle.sdmp_laws.specs.Order.{Order}
 use Rattle.sdmp_laws.specs.Poly.{Term, times}
 use Rattle.sdmp_laws.specs.Division.{AllAtOrBelow}
 use Rattle.divide_wholes.specs.Wholes.{latest_mark}
-use Rattle.divide_wholes.specs.Workers.{WorkerState, IsTop, worker_rows}
+use Rattle.divide_wholes.specs.Workers.{WorkerState, IsUnreadTop, worker_rows}
 use Rattle.dividing_rounds.specs.Counting.{NotesCounted}
 use Rattle.divide_workers.specs.Fronts.{PlainFront, IsPast}
 
@@ -21,7 +21,7 @@ AllAtTop ord (Some top) A = AllAtOrBelow ord top A
 pub record IsMarked (s : WorkerState) : Type 0 where
   pub top : Option (List ℕ)
   pub mark : latest_mark s.sent ≡ (length s.known, top)
-  pub is_top : IsTop s.division.ord s.unread top
+  pub is_top : IsUnreadTop s.division.ord s.unread top
 
 -- Each product of what it knows is unread or was handed out, past the front that it knows; and its notes are counted: a term that it sent or keeps was paid for by a product handed out, and a mark by a term learned or a product handed out since the mark before it. Its latest mark knows no more than it, and where it knows as much, nothing unread is above the mark's top.
 pub record HasPaid (s : WorkerState) (front : Option PlainFront) : Type 0 where

@@ -1,5 +1,6 @@
 -- A dividing worker as contracts see it.
 use Rattle.std.specs.Prelude.{ℕ, List, Option}
+use Rattle.whole_laws.specs.Notes.{Script, ProductScript, QuotientScript}
 use Rattle.divide_wholes.specs.Row.{RowNote}
 use Rattle.divide_wholes.specs.Workers.{WorkerState}
 use Rattle.term_ring.specs.Names.{RingName}
@@ -24,3 +25,8 @@ pub record WorkerView : Type 0 where
 -- what it has sent, as of any worker
 abbrev pub sender_of : WorkerView → SenderView
 sender_of v = record { ring = v.ring; worker = v.state.worker; sent = v.state.sent; head = v.head; full_looks = v.full_looks }
+
+-- how many workers a script is one of
+abbrev pub script_workers : Script → ℕ
+script_workers (ProductScript m W w) = W
+script_workers (QuotientScript d W w) = W

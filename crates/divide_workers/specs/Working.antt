@@ -22,7 +22,10 @@ pub record IsWorking (lim : ℕ) (v : WorkerView) : Type 0 where
   pub carried : RowCarry v.state.division v.row.name.start v.notes
   pub lowest : IsLowered v.state.division.ord (front_mono v.front) (front_after v.state.division None v.notes)
   pub fronted : v.state.known ≢ [] → v.front ≢ None
-  -- it has learned the terms that it knows of the row, and there is room for those that the row may still tell
+  -- it has learned the terms that it knows of the row
   pub enough : HasRows v.state → v.row.name.start + length (row_terms v.notes) ≤ length v.state.known
-  pub room : HasRows v.state → v.row.places ≤ length v.notes + v.spare
   pub paid : HasPaid v.state v.front
+
+-- its rows have room for each note that the row may still tell
+abbrev pub HasRoom : WorkerView → Type 0
+HasRoom v = HasRows v.state → v.row.places ≤ length v.notes + v.spare

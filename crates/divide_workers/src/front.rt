@@ -30,10 +30,7 @@ pub(crate) fn lower<M: Monomial>(
     match news.mono.higher(front.mono, steps) {
         Ordering::Less => news,
         Ordering::Greater => front,
-        Ordering::Equal => Front {
-            mono: front.mono,
-            is_strict: front.is_strict || news.is_strict,
-        },
+        Ordering::Equal => { if front.is_strict { front } else { news } }
     }
 }
 

@@ -6,7 +6,8 @@ ghost use Rattle.term_ring.specs.Ends.{sent, head_seen, full_looks};
 ghost use Rattle.term_ring.specs.Names.{writer_name, IsWriting};
 ghost use Rattle.quotient_row.specs.Ends.{IsNew};
 ghost use Rattle.divide_merge.specs.Names.{IsFit, IsLooking, reader_row};
-ghost use Rattle.divide_workers.specs.Inside.{view_of, script_workers};
+ghost use Rattle.divide_workers.specs.Views.{script_workers};
+ghost use Rattle.divide_workers.specs.Inside.{view_of};
 ghost use Rattle.divide_workers.specs.Paying.{HasRows, IsFewSent};
 ghost use Rattle.divide_workers.specs.Working.{IsWorking};
 
@@ -52,7 +53,7 @@ impl<'a, R: CoeffRing, M: Monomial> Model for Sender<'a, R, M> {
 }
 
 impl<'a, R: CoeffRing, M: Monomial> Sender<'a, R, M> {
-    /// A worker that knows and has sent nothing. Its rows have room for all notes of the row, unless there are none.
+    /// A worker that knows and has sent nothing.
     pub fn new(
         worker: u32,
         rows: QuotientRows<'a, R, M>,
@@ -72,7 +73,6 @@ impl<'a, R: CoeffRing, M: Monomial> Sender<'a, R, M> {
         requires learned { (rows.learned ≡ []) × (rows.unread ≡ []) }
         requires sent { sent writer ≡ [] }
         requires known { IsNew reader }
-        requires room { rows.rows ≢ [] → (reader_row reader).places ≤ rows.spare }
         ensures { result ≡ view_of M.vector R.value worker rows writer reader None None }
     {
         let divisor = rows.divisor();

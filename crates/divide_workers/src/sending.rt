@@ -1,10 +1,10 @@
 //! How a dividing worker hands out its products and sends their sums and its marks.
-ghost use Rattle.std.specs.Prelude.{◌≡◌, ◌≢◌, ◌≤◌, ◌<◌, ◌+◌, ◌*◌, ◌↔◌, [], length, IfOk, IfErr, IsTrue, MatchOption, false};
+ghost use Rattle.std.specs.Prelude.{◌≡◌, ◌≢◌, ◌∷◌, [], IfOk, IfErr, IsTrue, false};
+ghost use Rattle.canonical_terms.specs.View.{term_of};
 ghost use Rattle.term_ring.specs.Names.{ring_name};
-ghost use Rattle.term_ring.specs.Sending.{IsRefused, WasRefused};
-ghost use Rattle.divide_workers.specs.Views.{sender_of};
-ghost use Rattle.divide_workers.specs.Paying.{IsMarked};
-ghost use Rattle.divide_workers.specs.Steps.{Works, HoldsBack};
+ghost use Rattle.divide_workers.specs.Fronts.{plain_front};
+ghost use Rattle.divide_workers.specs.Inside.{mark_of};
+ghost use Rattle.divide_workers.specs.Steps.{IsAllHeld, HoldsBack, IsFrontier, MayHand, HandsOut, IsMarkOf, Pushes, Refuses};
 
 use crate::front::{Front, is_past};
 use crate::mark::{Mark, is_same};
@@ -16,8 +16,10 @@ use step_count::Steps;
 use term_ring::{Full, NoteOf, Ring};
 
 impl<R: CoeffRing, M: Monomial> Sender<'_, R, M> {
-    /// The front times the first row: what a monomial times the leading one of the divisor has to be past. None where nothing is past it, which a front of a degree above the limit has too.
-    pub fn frontier(&self) -> Option<Front<M>> {
+    /// The front times the first row: what a monomial times the leading one of the divisor has to be past. None where nothing that the worker holds is past it, as with a front of a degree above the limit.
+    pub fn frontier(&self) -> Option<Front<M>>
+        ensures { IsFrontier self.now (plain_front M.vector result) }
+    {
         let front = self.front?;
         let first = self.rows.first()?;
         if front.mono.degree() > M::limit() {
@@ -31,7 +33,11 @@ impl<R: CoeffRing, M: Monomial> Sender<'_, R, M> {
 
     // whether the greatest product may be handed out
     #[inline(always)]
-    fn may_hand(&self, frontier: Option<Front<M>>, steps: &mut Steps) -> bool {
+    fn may_hand(&self, frontier: Option<Front<M>>, steps: &mut Steps) -> bool
+        requires { IsFrontier self.now (plain_front M.vector frontier) }
+        ensures yes { IsTrue result → MayHand self.now }
+        ensures no { result ≡ false → IsAllHeld self.now }
+    {
         let Some(frontier) = frontier else {
             return false;
         };
@@ -41,33 +47,47 @@ impl<R: CoeffRing, M: Monomial> Sender<'_, R, M> {
         }
     }
 
+    // hands out the greatest products, and keeps their sum unless it is zero
+    #[inline(always)]
+    fn hand_out(&mut self, steps: &mut Steps)
+        requires may { MayHand self.old }
+        requires kept { self.old.state.kept ≡ [] }
+        ensures { HandsOut self.old self.new }
+    {
+        let Some(sum) = self.rows.next(steps) else {
+            unreachable!()
+        };
+        if !self.coefficients.is_zero(sum.coef) {
+            self.kept = Some(sum);
+        }
+    }
+
     /// Hands out products until it keeps a term to send, or may hand out no more.
     #[inline(always)]
-    pub fn keep_next(&mut self, frontier: Option<Front<M>>, steps: &mut Steps) -> bool {
-        while self.kept.is_none() && self.may_hand(frontier, steps) {
-            let Some(sum) = self.rows.next(steps) else {
-                unreachable!()
-            };
-            if !self.coefficients.is_zero(sum.coef) {
-                self.kept = Some(sum);
+    pub fn keep_next(&mut self, frontier: Option<Front<M>>, steps: &mut Steps) -> bool
+        requires { IsFrontier self.old (plain_front M.vector frontier) }
+        ensures hands { HandsOut self.old self.new }
+        ensures frontier { IsFrontier self.new (plain_front M.vector frontier) }
+        ensures kept { IsTrue result → self.new.state.kept ≢ [] }
+        ensures held { result ≡ false → HoldsBack self.new }
+    {
+        loop {
+            if self.kept.is_some() {
+                return true;
             }
+            if !self.may_hand(frontier, steps) {
+                return false;
+            }
+            self.hand_out(steps);
         }
-        self.kept.is_some()
     }
 
     /// Sends the term that it keeps; where it keeps none, the mark of what it knows, unless its latest mark says that.
     #[inline(always)]
     pub fn push(&mut self, ring: &Ring<R, M>, steps: &mut Steps) -> Result<(), Full>
         requires ring { ring_name ring.now ≡ self.old.ring }
-        ensures works { Works self.old self.new }
-        ensures known { self.new.state.known ≡ self.old.state.known }
-        ensures unread { self.new.state.unread ≡ self.old.state.unread }
-        ensures row { (self.new.notes ≡ self.old.notes) × (self.new.count ≡ self.old.count) × (self.new.loads ≡ self.old.loads) }
-        ensures front { self.new.front ≡ self.old.front }
-        ensures sent { IfOk result (λ _. self.new.state.kept ≡ []) }
-        ensures marked { IfOk result (λ _. self.old.state.kept ≡ [] → IsMarked self.new.state) }
-        ensures kept { IfErr result (λ _. self.new.state ≡ self.old.state) }
-        ensures refused { IfErr result (λ _. IsRefused (sender_of self.new) × WasRefused (sender_of self.old) (sender_of self.new)) }
+        ensures sent { IfOk result (λ _. Pushes self.old self.new) }
+        ensures refused { IfErr result (λ _. Refuses self.old self.new) }
     {
         match self.kept {
             Some(term) => self.push_term(ring, term),
@@ -77,18 +97,36 @@ impl<R: CoeffRing, M: Monomial> Sender<'_, R, M> {
 
     // sends the term that is kept
     #[inline(always)]
-    fn push_term(&mut self, ring: &Ring<R, M>, term: Term<R, M>) -> Result<(), Full> {
+    fn push_term(&mut self, ring: &Ring<R, M>, term: Term<R, M>) -> Result<(), Full>
+        requires ring { ring_name ring.now ≡ self.old.ring }
+        requires kept { self.old.state.kept ≡ term_of M.vector R.value term ∷ [] }
+        requires belongs { R.belongs self.old.state.division.p term.coef }
+        ensures sent { IfOk result (λ _. Pushes self.old self.new) }
+        ensures refused { IfErr result (λ _. Refuses self.old self.new) }
+    {
         self.writer.push(ring, NoteOf::Term(term))?;
         self.kept = None;
         Ok(())
     }
 
-    // sends a mark that tells something new
-    fn push_mark(&mut self, ring: &Ring<R, M>, steps: &mut Steps) -> Result<(), Full> {
-        let mark = Mark {
+    // the mark of what it knows
+    fn mark(&self) -> Mark<M>
+        ensures { IsMarkOf self.now (mark_of M.vector result) }
+    {
+        Mark {
             known: self.known(),
             top: self.rows.top(),
-        };
+        }
+    }
+
+    // sends a mark that tells something new
+    fn push_mark(&mut self, ring: &Ring<R, M>, steps: &mut Steps) -> Result<(), Full>
+        requires ring { ring_name ring.now ≡ self.old.ring }
+        requires kept { self.old.state.kept ≡ [] }
+        ensures sent { IfOk result (λ _. Pushes self.old self.new) }
+        ensures refused { IfErr result (λ _. Refuses self.old self.new) }
+    {
+        let mark = self.mark();
         if is_same(mark, self.marked, steps) {
             return Ok(());
         }

@@ -1,5 +1,13 @@
 //! The division of two polynomials by workers.
 
+ghost use Rattle.std.specs.Prelude.{◌≡◌, ◌≢◌, ◌<◌, ◌≤◌, ◌⊎◌, ◌↔◌, length, IfOk, IsTrue, MatchResult};
+ghost use Rattle.sdmp_laws.specs.LongDivision.{quotient_list};
+ghost use Rattle.sdmp_laws.specs.Ring.{IsUnit};
+ghost use Rattle.division_laws.specs.Outcome.{division_of};
+ghost use Rattle.divide_core.specs.Answer.{IsAnswer, IsRefusal};
+ghost use Rattle.divide_merge.specs.Merges.{IsDone};
+ghost use Rattle.divide_workers.specs.Rounds.{rounds_bound};
+
 use crate::divided::Divided;
 use crate::rounds::{Finished, finish};
 use crate::team::{Job, Team};
@@ -118,7 +126,19 @@ pub fn divide<T: Threads + Sync, R: CoeffRing, M: Monomial, G: Gate>(
     workers: u32,
     places: u32,
     gate: &G,
-) -> Result<Divided<R, M>, DivideFault> {
+) -> Result<Divided<R, M>, DivideFault>
+    requires modulus { f.now.modulus ≡ g.now.modulus }
+    requires workers { 0 < workers }
+    requires places { 0 < places }
+    ensures answer { MatchResult
+        result
+        (λ a. IsAnswer (division_of mode M.order M.VARS f.now g.now) a.answer)
+        (λ fault. IsRefusal (division_of mode M.order M.VARS f.now g.now) fault) }
+    ensures rounds { IfOk result (λ a. a.rounds ≤ rounds_bound (division_of mode M.order M.VARS f.now g.now) workers) }
+    ensures done { IfOk result (λ a. IsDone a.last.answer) }
+    ensures terms { IfOk result (λ a. a.last.terms ≡ length (quotient_list (division_of mode M.order M.VARS f.now g.now))) }
+    ensures receipt { IfOk result (λ a. (a.last.merge.value.run.state.division ≡ division_of mode M.order M.VARS f.now g.now) × (a.last.merge.value.run.state.workers ≡ workers)) }
+{
     let divisor = g.terms();
     if divisor.is_empty() {
         return Err(DivideFault::ZeroDivisor);

@@ -1,5 +1,17 @@
 //! How a dividing worker waits, for room in its ring or for news of the row.
 
+ghost use Rattle.std.specs.Prelude.{◌≡◌, ◌+◌, ◌<◌, ◌≤◌, map, length, IfOk, IfErr, IsTrue};
+ghost use Rattle.turnstile.specs.Passes.{made_with, IsPassOf, IsOutside, entries, busy, patience};
+ghost use Rattle.term_ring.specs.Names.{ring_name};
+ghost use Rattle.term_ring.specs.Sending.{IsRefused};
+ghost use Rattle.divide_merge.specs.Names.{row_identity};
+ghost use Rattle.divide_merge.specs.Reached.{divide_name};
+ghost use Rattle.divide_workers.specs.Views.{sender_of};
+ghost use Rattle.divide_workers.specs.Paying.{HasRows};
+ghost use Rattle.divide_workers.specs.Working.{HasRoom};
+ghost use Rattle.divide_workers.specs.Steps.{Works, Pushes};
+ghost use Rattle.divide_workers.specs.Stops.{HasName, StaysRefused, StaysUntold, IsReceipt, TriesOnce, MayGiveUp};
+
 use crate::ended::Ended;
 use crate::sender::Sender;
 use crate::shared::Shared;
@@ -21,7 +33,18 @@ pub(crate) fn wait_for_room<R: CoeffRing, M: Monomial>(
     pass: &mut Pass<DivideMerge<R, M>>,
     bound: &mut Patience,
     steps: &mut Steps,
-) -> Result<(), Option<DivideAdvanced<R, M>>> {
+) -> Result<(), Option<DivideAdvanced<R, M>>>
+    requires pass { IsPassOf shared.now.turnstile.now pass.old × IsOutside pass.old }
+    requires name { HasName (made_with shared.now.turnstile.now) (map ring_name shared.now.rings.now) (row_identity shared.now.row.now) }
+    requires ring { ring_name ring.now ≡ sender.old.ring }
+    requires refused { IsRefused (sender_of sender.old) }
+    ensures pass { IsPassOf shared.now.turnstile.now pass.new × IsOutside pass.new }
+    ensures entries { entries pass.old ≤ entries pass.new }
+    ensures busy { busy pass.old ≤ busy pass.new }
+    ensures sent { IfOk result (λ _. Pushes sender.old sender.new) }
+    ensures refused { IfErr result (λ _. StaysRefused sender.old sender.new) }
+    ensures receipt { IfErr result (λ r. IsReceipt (divide_name (made_with shared.now.turnstile.now)) patience pass.old pass.new r) }
+{
     let mut receipt = None;
     for turn in 0..MOST_TURNS {
         advance_merge(shared, pass, &mut receipt, steps);
@@ -47,7 +70,23 @@ pub(crate) fn wait_for_news<R: CoeffRing, M: Monomial>(
     pass: &mut Pass<DivideMerge<R, M>>,
     bound: &mut Patience,
     steps: &mut Steps,
-) -> Result<(), Option<DivideAdvanced<R, M>>> {
+) -> Result<(), Option<DivideAdvanced<R, M>>>
+    requires pass { IsPassOf shared.now.turnstile.now pass.old × IsOutside pass.old }
+    requires name { HasName (made_with shared.now.turnstile.now) (map ring_name shared.now.rings.now) (row_identity shared.now.row.now) }
+    requires row { sender.old.row ≡ row_identity shared.now.row.now }
+    requires rows { HasRows sender.old.state }
+    requires room { HasRoom sender.old }
+    requires untold { sender.old.count ≡ length sender.old.notes }
+    ensures pass { IsPassOf shared.now.turnstile.now pass.new × IsOutside pass.new }
+    ensures entries { entries pass.old ≤ entries pass.new }
+    ensures busy { busy pass.old ≤ busy pass.new }
+    ensures works { Works sender.old sender.new }
+    ensures sender { sender_of sender.new ≡ sender_of sender.old }
+    ensures news { IfOk result (λ _. length sender.old.notes < length sender.new.notes) }
+    ensures kept { IfOk result (λ _. sender.new.state.kept ≡ sender.old.state.kept) }
+    ensures untold { IfErr result (λ _. StaysUntold sender.old sender.new) }
+    ensures receipt { IfErr result (λ r. IsReceipt (divide_name (made_with shared.now.turnstile.now)) patience pass.old pass.new r) }
+{
     let mut receipt = None;
     for turn in 0..MOST_TURNS {
         advance_merge(shared, pass, &mut receipt, steps);
@@ -72,7 +111,9 @@ fn is_enough<R: CoeffRing, M: Monomial>(
     bound: &Patience,
     ended: &Ended,
     receipt: &Option<DivideAdvanced<R, M>>,
-) -> bool {
+) -> bool
+    ensures { IsTrue result → MayGiveUp turns receipt.now }
+{
     let is_over = bound.is_over(turns) || (turns >= LAST_TURNS && ended.is_told());
     match receipt {
         Some(last) => is_over || !matches!(last.answer(), DivideAdvanceOf::Blocked(_)),
@@ -86,7 +127,14 @@ fn advance_merge<R: CoeffRing, M: Monomial>(
     pass: &mut Pass<DivideMerge<R, M>>,
     receipt: &mut Option<DivideAdvanced<R, M>>,
     steps: &mut Steps,
-) {
+)
+    requires pass { IsPassOf shared.now.turnstile.now pass.old × IsOutside pass.old }
+    requires name { HasName (made_with shared.now.turnstile.now) (map ring_name shared.now.rings.now) (row_identity shared.now.row.now) }
+    ensures pass { IsPassOf shared.now.turnstile.now pass.new × IsOutside pass.new }
+    ensures entries { entries pass.old ≤ entries pass.new }
+    ensures busy { busy pass.old ≤ busy pass.new }
+    ensures receipt { TriesOnce (divide_name (made_with shared.now.turnstile.now)) pass.old pass.new receipt.old receipt.new }
+{
     if let Ok(mut merge) = shared.turnstile.try_enter(pass) {
         let last = merge.advance(shared.rings, shared.row, steps);
         merge.whole();

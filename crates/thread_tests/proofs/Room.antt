@@ -1,5 +1,5 @@
 -- The product of x+1 and x-1 has room, and which rings its two workers have.
-use Rattle.std.proofs.Common.{◌≡◌, ℕ, zero, suc, ◌+◌, ◌*◌, ◌<◌, ℤ, pos, negsuc, List, [], ◌∷◌, length, refl, sym, ap, ap₂, ◌∙◌, subst, arith}
+use Rattle.std.proofs.Common.{◌≡◌, ℕ, zero, suc, ◌+◌, ◌*◌, ◌<◌, pos, negsuc, List, [], ◌∷◌, length, refl, sym, ap, ap₂, ◌∙◌, subst, arith}
 use Rattle.sdmp_laws.specs.Order.{Grlex, degree, alike, is_below, tie_below, lex_below}
 use Rattle.sdmp_laws.specs.Poly.{Term as PlainTerm, Over, AllDegrees, norm, lm, terms, put, keep, is_zero, term_plus}
 use Rattle.sdmp_laws.specs.Limits.{greatest_norm}

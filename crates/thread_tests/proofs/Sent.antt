@@ -1,5 +1,5 @@
 -- What the workers of the tests send.
-use Rattle.std.proofs.Common.{◌≡◌, ℕ, zero, suc, ℤ, pos, negsuc, ◌%◌, List, [], ◌∷◌, length, refl, sym, ap, ap₂, ◌∙◌, subst, eqb, cond, true, arith}
+use Rattle.std.proofs.Common.{◌≡◌, ℕ, zero, suc, pos, negsuc, ◌%◌, List, [], ◌∷◌, length, refl, sym, ap, ap₂, ◌∙◌, eqb, cond, true, arith}
 use Rattle.sdmp_laws.specs.Order.{Order, Grlex, ◌⋅◌, zeros, degree, alike, is_below, tie_below, lex_below}
 use Rattle.sdmp_laws.specs.Poly.{Term as PlainTerm, IsPoly, Over, terms, times, term_times, row, every, part, put, keep, is_zero, term_plus}
 use Rattle.sdmp_laws.proofs.TermsLemmas.{terms_of_poly}

@@ -5,6 +5,5 @@ use Rattle.thread_tests.proofs.turnstiles.round.Given as goal
 abbrev pub invariant-loop-i : goal.invariant-loop-i
 invariant-loop-i l = record {
   all : length l.members ≡ passes_out l.turnstile;
-  count : length l.members ≡ length l.initial.members;
   have : All (λ m. HasPass l.turnstile m.pass) l.members;
 }
