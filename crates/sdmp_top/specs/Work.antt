@@ -13,6 +13,8 @@ use Rattle.calc_session.specs.View.{Body, held}
 use Rattle.calc_session.specs.Demo.{demo_input}
 use Rattle.calc_session.specs.Heads.{Head, head_of}
 use Rattle.calc_session.specs.declared.fault.LineFault.{LineFault}
+use Rattle.sdmp_words.specs.declared.settings.Settings.{Settings}
+use Rattle.sdmp_top.specs.Monomials.{packed}
 use Rattle.sdmp_top.specs.Outside.{last_count}
 use Rattle.sdmp_top.specs.declared.ends.Ends.{Ends}
 
@@ -108,6 +110,10 @@ pub record IsTallied (W : ℕ) (made : List Calculation) (before after : Work) :
   pub notes : IsRaised (total (λ w. w.notes) W made) before.notes after.notes
   pub divisions : IsRaised (total (λ w. w.divisions) W made) before.divisions after.divisions
   pub terms : IsRaised (total (λ w. w.terms) W made) before.terms after.terms
+
+-- what a run is to make with these settings, where the source had these bytes left, has been counted
+abbrev pub IsTalliedRun : Settings → Option (List ℕ) → Work → Work → Type 0
+IsTalliedRun settings left before after = (input : List ℕ) → input_of settings.demo left ≡ Some input → IsTallied settings.workers (calculations packed input) before after
 
 -- of all that is to be made what stands before the rest has been counted
 pub record IsTalliedUpTo (W : ℕ) (all rest : List Calculation) (before after : Work) : Type 0 where

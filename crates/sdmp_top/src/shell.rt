@@ -7,7 +7,7 @@ ghost use Rattle.sdmp_words.specs.Words.{settings_of};
 ghost use Rattle.sdmp_words.specs.declared.settings.Settings.{Settings};
 ghost use Rattle.calc_session.specs.Demo.{demo_input};
 ghost use Rattle.sdmp_top.specs.Outside.{AppendsPart, DidNotFail, Rose};
-ghost use Rattle.sdmp_top.specs.Work.{IsTallied, calculations, input_of, tally_of};
+ghost use Rattle.sdmp_top.specs.Work.{IsTallied, IsTalliedRun, calculations, tally_of};
 ghost use Rattle.sdmp_top.specs.Written.{Answered, AppendsPieces, IsAnsweredStatus, demo_answers, wanted};
 
 use crate::answering_fault::AnsweringFault;
@@ -54,10 +54,7 @@ pub fn run<T: Threads + Sync, S: Source, K: Sink, G: Gate>(
     ensures flushed { IsAnsweredStatus result → K.flushed sink.new ≡ true }
     ensures ended { IsAnsweredStatus result → (settings : Settings) → settings_of (map string_bytes words.now) ≡ Some settings → settings.demo ≡ None
         → (input : List ℕ) → S.left source.old ≡ Some input → S.left source.new ≡ Some [] }
-    // What has been counted.
-    ensures tallied { IsAnsweredStatus result → (settings : Settings) → settings_of (map string_bytes words.now) ≡ Some settings
-        → (input : List ℕ) → input_of settings.demo (S.left source.old) ≡ Some input
-        → IsTallied settings.workers (calculations packed input) (tally_of ends.old) (tally_of ends.new) }
+    ensures tallied { IsAnsweredStatus result → (settings : Settings) → settings_of (map string_bytes words.now) ≡ Some settings → IsTalliedRun settings (S.left source.old) (tally_of ends.old) (tally_of ends.new) }
     // The words.
     ensures bad_words { result ≡ Status.BadWords → settings_of (map string_bytes words.now) ≡ None }
     ensures words { settings_of (map string_bytes words.now) ≡ None → (result ≡ Status.BadWords) ⊎ (result ≡ Status.NoMemory) }
