@@ -52,8 +52,7 @@ pub fn run<T: Threads + Sync, S: Source, K: Sink, G: Gate>(
         → (told : Answers) → wanted settings.demo (S.left source.old) ≡ Some told
         → Answered told result (K.held sink.old) (K.held sink.new) (K.flushed sink.new) }
     ensures flushed { IsAnsweredStatus result → K.flushed sink.new ≡ true }
-    ensures ended { IsAnsweredStatus result → (settings : Settings) → settings_of (map string_bytes words.now) ≡ Some settings → settings.demo ≡ None
-        → (input : List ℕ) → S.left source.old ≡ Some input → S.left source.new ≡ Some [] }
+    ensures ended { IsAnsweredStatus result → (settings : Settings) → settings_of (map string_bytes words.now) ≡ Some settings → settings.demo ≡ None → (input : List ℕ) → S.left source.old ≡ Some input → S.left source.new ≡ Some [] }
     ensures tallied { IsAnsweredStatus result → (settings : Settings) → settings_of (map string_bytes words.now) ≡ Some settings → IsTalliedRun settings (S.left source.old) (tally_of ends.old) (tally_of ends.new) }
     // The words.
     ensures bad_words { result ≡ Status.BadWords → settings_of (map string_bytes words.now) ≡ None }
