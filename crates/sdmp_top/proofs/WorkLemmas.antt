@@ -1,5 +1,5 @@
 -- Lemmas on what a session makes, and on what has been counted of it.
-use Rattle.std.proofs.Common.{◌≡◌, ◌+◌, ◌≤◌, ℕ, Bool, true, false, cond, leb, min, List, [], ◌∷◌, ◌++◌, length, Option, Some, None, Result, Ok, Err, refl, sym, ap, subst, ◌∙◌, arith, append-nil, append_assoc}
+use Rattle.std.proofs.Common.{◌≡◌, ◌+◌, ◌<◌, ◌≤◌, ℕ, Bool, true, false, cond, leb, min, List, [], ◌∷◌, ◌++◌, length, Option, Some, None, Result, Ok, Err, refl, sym, ap, subst, ◌∙◌, arith, append-nil, append_assoc}
 use Rattle.std.specs.List.{sum_by}
 use Rattle.std.proofs.lemmas.List.Sums.{sum_by-append}
 use Rattle.sdmp_laws.specs.Order.{Order}
@@ -55,7 +55,7 @@ pub tallied_product : (W : ℕ) (m : Product) (notes : ℕ) (a b : Work) → not
     → IsTallied W (MakesProduct m ∷ []) a b
 tallied_product W m notes a b all products counted divisions terms = record {
   products = raised_min 1 a.products b.products products;
-  notes = subst (λ (n : ℕ). IsRaised n a.notes b.notes) all (raised_min notes a.notes b.notes counted);
+  notes = subst (λ (n : ℕ). IsRaised n a.notes b.notes) (let whole : notes ≡ 0 + notes_total m W = omega (arith, all) in whole) (raised_min notes a.notes b.notes counted);
   divisions = raised_same a.divisions b.divisions divisions;
   terms = raised_same a.terms b.terms terms;
 }
@@ -68,7 +68,7 @@ tallied_division W d terms a b all divisions counted products notes = record {
   products = raised_same a.products b.products products;
   notes = raised_same a.notes b.notes notes;
   divisions = raised_min 1 a.divisions b.divisions divisions;
-  terms = subst (λ (n : ℕ). IsRaised n a.terms b.terms) all (raised_min terms a.terms b.terms counted);
+  terms = subst (λ (n : ℕ). IsRaised n a.terms b.terms) (let whole : terms ≡ 0 + length (quotient_list d) = omega (arith, all) in whole) (raised_min terms a.terms b.terms counted);
 }
 
 -- ---- line after line
@@ -183,10 +183,11 @@ module _ (ord : Order) (lim n : ℕ) (setting : Setting) (is : IsSettingOf ord l
 
 -- ---- which factor gives the rows
 module _ (ord : Order) (p q n : ℕ) (f g : List Term) where
-  pub left_rows : true ≡ leb (length f) (length g) → by_fewer_rows ord p n f g ≡ record { ord = ord; p = p; n = n; f = f; g = g }
-  left_rows e = ap (λ (b : Bool). cond b (let m : Product = record { ord = ord; p = p; n = n; f = f; g = g } in m) (let m : Product = record { ord = ord; p = p; n = n; f = g; g = f } in m)) (sym e)
+  pub left_rows : length f ≤ length g → by_fewer_rows ord p n f g ≡ record { ord = ord; p = p; n = n; f = f; g = g }
+  left_rows few = let e : leb (length f) (length g) ≡ true = search (arith, few) in ap (λ (b : Bool). cond b (let m : Product = record { ord = ord; p = p; n = n; f = f; g = g } in m) (let m : Product = record { ord = ord; p = p; n = n; f = g; g = f } in m)) e
 
-  pub right_rows : false ≡ leb (length f) (length g) → p ≡ q → by_fewer_rows ord p n f g ≡ record { ord = ord; p = q; n = n; f = g; g = f }
-  right_rows e same =
-      ap (λ (b : Bool). cond b (let m : Product = record { ord = ord; p = p; n = n; f = f; g = g } in m) (let m : Product = record { ord = ord; p = p; n = n; f = g; g = f } in m)) (sym e)
+  pub right_rows : length g < length f → p ≡ q → by_fewer_rows ord p n f g ≡ record { ord = ord; p = q; n = n; f = g; g = f }
+  right_rows few same =
+      let e : leb (length f) (length g) ≡ false = search (arith, few) in
+      ap (λ (b : Bool). cond b (let m : Product = record { ord = ord; p = p; n = n; f = f; g = g } in m) (let m : Product = record { ord = ord; p = p; n = n; f = g; g = f } in m)) e
       ∙ (λ i. let m : Product = record { ord = ord; p = same i; n = n; f = g; g = f } in m)

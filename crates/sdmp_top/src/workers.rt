@@ -1,5 +1,5 @@
 //! Products by workers.
-ghost use Rattle.std.specs.Prelude.{◌≡◌, ◌<◌, ◌≤◌, ◌∷◌, [], ℕ, leb, length, List, IfOk, IfErr, OnOk, OnErr};
+ghost use Rattle.std.specs.Prelude.{◌≡◌, ◌<◌, ◌≤◌, ◌∷◌, [], ℕ, List, IfOk, IfErr, OnOk, OnErr};
 ghost use Rattle.sdmp_laws.specs.Poly.{Term as TermOfSum};
 ghost use Rattle.mul_workers.specs.Products.{IsRefusal, product_of};
 ghost use Rattle.calc_session.specs.Product.{IsProduct, IsProductRefused};
@@ -42,13 +42,6 @@ impl<'a, T: Threads + Sync, G: Gate> Workers<'a, T, G> {
     }
 }
 
-// Whether the terms of f are the rows of the product of f and g: the fewer the rows, the smaller the heaps.
-fn gives_rows<R: CoeffRing, M: Monomial>(f: &Poly<R, M>, g: &Poly<R, M>) -> bool
-    ensures { result ≡ leb (length f.now.list) (length g.now.list) }
-{
-    f.terms().len() <= g.terms().len()
-}
-
 /// The product of two polynomials of one modulus, which is counted. It is refused exactly where it would pass a bound, or for want of memory.
 pub fn product<T: Threads + Sync, G: Gate, R: CoeffRing, M: Monomial>(
     alloc: Global,
@@ -64,7 +57,10 @@ pub fn product<T: Threads + Sync, G: Gate, R: CoeffRing, M: Monomial>(
     ensures tallied { OnOk result (IsTallied by.now.workers (MakesProduct (by_fewer_rows M.order f.now.modulus M.VARS f.now.list g.now.list) ∷ []) (tally_of ends.old) (tally_of ends.new)) }
     ensures same { OnErr result (tally_of ends.new ≡ tally_of ends.old) }
 {
-    if gives_rows(f, g) {
+    // the terms of the first factor are rows, and the fewer they are the smaller are the heaps
+    let left = f.terms().len();
+    let right = g.terms().len();
+    if left <= right {
         return product_by_rows(alloc, by, ends, f, g);
     }
     product_by_rows(alloc, by, ends, g, f)
