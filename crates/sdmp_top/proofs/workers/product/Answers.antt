@@ -25,13 +25,13 @@ returns-clause-refused g c =
     (λ fault is. refused_swaps g.M.Monomial.LIM c.args.f.now.modulus c.args.g.now.modulus c.args.f.now.list c.args.g.now.list fault c.requires.moduli is)
     c.product_by_rows-2.ensures.refused
 
-pub returns-then-left-le-right-clause-tallied : goal.returns-then-left-le-right-clause-tallied
-returns-then-left-le-right-clause-tallied g c =
+pub returns-then-left-right-clause-tallied : goal.returns-then-left-right-clause-tallied
+returns-then-left-right-clause-tallied g c =
     let f = c.args.f.now in
     let h = c.args.g.now in
     let left : length c.terms-left.result.now ≡ length f.list = sym (length-map c.terms-left.result.now (term_of g.M.Monomial.vector g.R.CoeffRing.value)) ∙ ap (λ (L : List Term). length L) c.terms-left.ensures.view in
     let right : length c.terms-right.result.now ≡ length h.list = sym (length-map c.terms-right.result.now (term_of g.M.Monomial.vector g.R.CoeffRing.value)) ∙ ap (λ (L : List Term). length L) c.terms-right.ensures.view in
-    let few : length f.list ≤ length h.list = (let e = c.if-left-le-right.true in omega (arith, e, left, right)) in
+    let few : length f.list ≤ length h.list = (let e = c.if-left-right.true in omega (arith, e, left, right)) in
     on_ok_weaker c.product_by_rows.result
     (λ k. subst (λ (m : Product). IsTallied c.args.by.now.workers (MakesProduct m ∷ []) (tally_of c.args.ends.now) (tally_of c.product_by_rows.new.ends))
     (sym (left_rows g.M.Monomial.order f.modulus f.modulus g.M.Monomial.VARS f.list h.list few)) k)
@@ -43,7 +43,7 @@ returns-clause-tallied g c =
     let h = c.args.g.now in
     let left : length c.terms-left.result.now ≡ length f.list = sym (length-map c.terms-left.result.now (term_of g.M.Monomial.vector g.R.CoeffRing.value)) ∙ ap (λ (L : List Term). length L) c.terms-left.ensures.view in
     let right : length c.terms-right.result.now ≡ length h.list = sym (length-map c.terms-right.result.now (term_of g.M.Monomial.vector g.R.CoeffRing.value)) ∙ ap (λ (L : List Term). length L) c.terms-right.ensures.view in
-    let few : length h.list < length f.list = (let e = c.if-left-le-right.false in omega (arith, e, left, right)) in
+    let few : length h.list < length f.list = (let e = c.if-left-right.false in omega (arith, e, left, right)) in
     on_ok_weaker c.product_by_rows-2.result
     (λ k. subst (λ (m : Product). IsTallied c.args.by.now.workers (MakesProduct m ∷ []) (tally_of c.args.ends.now) (tally_of c.product_by_rows-2.new.ends))
     (sym (right_rows g.M.Monomial.order f.modulus h.modulus g.M.Monomial.VARS f.list h.list few c.requires.moduli)) k)
