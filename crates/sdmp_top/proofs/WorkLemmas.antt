@@ -18,8 +18,11 @@ use Rattle.calc_session.specs.Session.{Monomials, Setting, Defined, setting_in, 
 use Rattle.calc_session.specs.View.{Body, IsSettingOf, held}
 use Rattle.calc_session.specs.declared.fault.LineFault.{LineFault}
 use Rattle.calc_session.proofs.EffectiveLemmas.{no_lines}
+use Rattle.calc_session.specs.Demo.{demo_input}
+use Rattle.sdmp_words.specs.declared.settings.Settings.{Settings}
+use Rattle.sdmp_top.specs.Monomials.{packed}
 use Rattle.sdmp_top.specs.Outside.{last_count}
-use Rattle.sdmp_top.specs.Work.{Calculation, MakesProduct, MakesDivision, by_fewer_rows, product_within, of_both, calculations_of, calculations_said, line_calculations, body_calculations, calculations_by, head_calculations, calculations, Work, work_of, total, IsRaised, IsTallied, IsTalliedUpTo}
+use Rattle.sdmp_top.specs.Work.{Calculation, MakesProduct, MakesDivision, by_fewer_rows, product_within, of_both, calculations_of, calculations_said, line_calculations, body_calculations, calculations_by, head_calculations, calculations, Work, work_of, total, IsRaised, IsTallied, IsTalliedUpTo, IsTalliedRun, input_of}
 
 -- ---- counts
 raised_none : (n : ℕ) → IsRaised 0 n n
@@ -191,3 +194,15 @@ module _ (ord : Order) (p q n : ℕ) (f g : List Term) where
       let e : leb (length f) (length g) ≡ false = search (arith, few) in
       ap (λ (b : Bool). cond b (let m : Product = record { ord = ord; p = p; n = n; f = f; g = g } in m) (let m : Product = record { ord = ord; p = p; n = n; f = g; g = f } in m)) e
       ∙ (λ i. let m : Product = record { ord = ord; p = same i; n = n; f = g; g = f } in m)
+
+-- ---- the demo
+some_is : (a b : List ℕ) → Some a ≡ Some b → a ≡ b
+some_is a b e = cc
+
+pub demo_tallied : (told settings : Settings) (seed : ℕ) (left : Option (List ℕ)) (before after : Work) → told ≡ settings → told.demo ≡ Some seed
+    → IsTallied told.workers (calculations packed (demo_input seed)) before after → IsTalliedRun settings left before after
+demo_tallied told settings seed left before after same demo h = λ input e.
+    let asked : settings.demo ≡ Some seed = ap (λ (s : Settings). s.demo) (sym same) ∙ demo in
+    let is : demo_input seed ≡ input = some_is (demo_input seed) input (ap (λ (d : Option ℕ). input_of d left) (sym asked) ∙ e) in
+    subst (λ (bytes : List ℕ). IsTallied settings.workers (calculations packed bytes) before after) is
+    (subst (λ (s : Settings). IsTallied s.workers (calculations packed (demo_input seed)) before after) same h)

@@ -56,8 +56,9 @@ fn refuse<K: Sink>(
     fault: LineFault,
     sink: &mut K,
 ) -> Result<Ending, AnsweringFault>
-    ensures { (told : Answers) → (fault ≢ LineFault.NoMemory → told ≡ refused (fault_line line fault))
+    ensures answering { (told : Answers) → (fault ≢ LineFault.NoMemory → told ≡ refused (fault_line line fault))
         → IsAnswering told (K.held sink.old) (K.held sink.new) (K.faults sink.old) (K.faults sink.new) (K.at_last sink.new) result }
+    ensures told { OnOk result (fault ≢ LineFault.NoMemory) }
 {
     if let LineFault::NoMemory = fault {
         return Err(AnsweringFault::NoMemory);

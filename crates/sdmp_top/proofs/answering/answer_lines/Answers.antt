@@ -4,9 +4,9 @@ use Rattle.calc_session.specs.Answers.{Answers, text, before}
 use Rattle.calc_session.specs.View.{answers_of}
 use Rattle.sdmp_top.specs.Outside.{Appends, AppendsPart, Rose}
 use Rattle.sdmp_top.proofs.OutsideLemmas.{rose_from}
-use Rattle.sdmp_top.proofs.AnswerLemmas.{reached_more, reached_pieces, reached_part, reached_refused, reached_done, reached_ending, text_of_line, at_its_end, at_a_fault, without_memory, no_more, when_err, when_ok}
+use Rattle.sdmp_top.proofs.AnswerLemmas.{reached_none, reached_more, reached_pieces, reached_part, reached_refused, reached_done, reached_ending, text_of_line, at_its_end, at_a_fault, without_memory, no_more, when_err, when_ok}
 use Rattle.sdmp_top.specs.Work.{tally_of, calculations_by, IsTalliedUpTo}
-use Rattle.sdmp_top.proofs.WorkLemmas.{up_to_more, up_to_end, no_more_made}
+use Rattle.sdmp_top.proofs.WorkLemmas.{up_to_none, up_to_more, up_to_end, no_more_made}
 use Rattle.sdmp_top.proofs.answering.answer_lines.Goals as goal
 
 pub returns-in_default-clause-answering : goal.returns-in_default-clause-answering
@@ -85,3 +85,11 @@ pub returns-clause-tallied : goal.returns-clause-tallied
 returns-clause-tallied g c =
     let none : length c.loop-rest.rest.now ≡ 0 = grind arith in
     up_to_end _ _ _ _ _ c.loop-rest.invariant.tallied (no_more_made c.loop-rest.session c.loop-rest.rest.now none)
+
+pub loop-rest-init : goal.loop-rest-init
+loop-rest-init g c = record {
+  reached = reached_none _ _;
+  numbers = c.requires;
+  steady = refl;
+  tallied = up_to_none _ _ _;
+}
