@@ -1,6 +1,5 @@
 -- Lemmas on what a session makes, and on what has been counted of it.
 use Rattle.std.proofs.Common.{◌≡◌, ◌+◌, ◌<◌, ◌≤◌, ℕ, Bool, true, false, cond, leb, min, List, [], ◌∷◌, ◌++◌, length, Option, Some, None, Result, Ok, Err, refl, sym, ap, subst, ◌∙◌, arith, append-nil, append_assoc}
-use Rattle.std.specs.List.{sum_by}
 use Rattle.std.proofs.lemmas.List.Sums.{sum_by-append}
 use Rattle.sdmp_laws.specs.Order.{Order}
 use Rattle.sdmp_laws.specs.Poly.{Term}
@@ -12,7 +11,7 @@ use Rattle.division_laws.specs.Outcome.{division}
 use Rattle.whole_laws.specs.Notes.{Product}
 use Rattle.global_heap.specs.Names.{notes_total}
 use Rattle.calc_session.specs.Lines.{lines}
-use Rattle.calc_session.specs.Body.{Form, Skip, Define, Show, Mul, Div, Rem, form_of}
+use Rattle.calc_session.specs.Body.{Form, Mul, Div, Rem, form_of}
 use Rattle.calc_session.specs.Heads.{Head, head_of}
 use Rattle.calc_session.specs.Session.{Monomials, Setting, Defined, setting_in, setting_of, undefined, known, answer_to}
 use Rattle.calc_session.specs.View.{Body, IsSettingOf, held}

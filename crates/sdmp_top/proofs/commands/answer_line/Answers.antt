@@ -1,4 +1,4 @@
-use Rattle.std.proofs.Common.{rules, map, List, ℕ, ◌≡◌, ◌∙◌, ap, sym, subst, Ok}
+use Rattle.std.proofs.Common.{rules, List, ℕ, ◌≡◌, ◌∙◌, ap, sym, subst, Ok}
 use Rattle.std.proofs.lemmas.Result.{IfErr-weaker, on_ok_weaker}
 use Rattle.calc_session.specs.Body.{form_of, Skip, Define, Show, Mul, Div, Rem}
 use Rattle.calc_session.specs.View.{held}

@@ -1,7 +1,7 @@
-use Rattle.std.proofs.Common.{rules, List, ◌∙◌, sym, subst}
+use Rattle.std.proofs.Common.{List, ◌∙◌, sym, subst}
 use Rattle.std.proofs.lemmas.Result.{on_ok_weaker}
 use Rattle.sdmp_laws.specs.declared.Mode.TheVariants.{Remainder}
-use Rattle.division_laws.specs.Outcome.{HasRemainder, division}
+use Rattle.division_laws.specs.Outcome.{HasRemainder}
 use Rattle.calc_session.specs.View.{held}
 use Rattle.poly_text.proofs.Results.{passed_up}
 use Rattle.calc_session.proofs.CommandLemmas.{divided_err, rem_ok}

@@ -1,6 +1,5 @@
-use Rattle.std.proofs.Common.{rules, ◌≡◌, ℕ, Some, subst}
+use Rattle.std.proofs.Common.{rules, ◌≡◌, ℕ, subst}
 use Rattle.calc_session.specs.Demo.{demo_input}
-use Rattle.sdmp_words.specs.declared.settings.Settings.{Settings}
 use Rattle.sdmp_top.specs.Monomials.{packed}
 use Rattle.sdmp_top.specs.Work.{IsTallied, calculations, tally_of}
 use Rattle.sdmp_top.proofs.WorkLemmas.{demo_tallied}

@@ -1,7 +1,7 @@
-use Rattle.std.proofs.Common.{IfOk, ◌≡◌, ◌<◌, ◌≤◌, List, ◌∷◌, [], length, sym, ap, subst, ◌∙◌, arith}
+use Rattle.std.proofs.Common.{◌≡◌, ◌<◌, ◌≤◌, List, ◌∷◌, [], length, sym, ap, subst, ◌∙◌, arith}
 use Rattle.std.proofs.lemmas.List.{length-map}
 use Rattle.canonical_terms.specs.View.{term_of}
-use Rattle.sdmp_laws.specs.Poly.{Over, Term}
+use Rattle.sdmp_laws.specs.Poly.{Term}
 use Rattle.calc_session.proofs.CommandLemmas.{if_ok_weaker}
 use Rattle.whole_laws.specs.Notes.{Product}
 use Rattle.std.proofs.lemmas.Result.{IfErr-weaker, on_ok_weaker}
