@@ -172,7 +172,7 @@ unfolding AllAtOrAbove
 one_at ord x t e = (inl (sym e), tt)
 
 -- a monomial of a list that stands below l is below l
-has_below : (ord : Order) (x l : List ℕ) (A : List Term) → has x A ≡ true → AllBelow ord l A → Below ord x l
+pub has_below : (ord : Order) (x l : List ℕ) (A : List Term) → has x A ≡ true → AllBelow ord l A → Below ord x l
 unfolding has AllBelow
 has_below ord x l [] h k = absurd (true≢false (sym h))
 has_below ord x l (t ∷ A) h k = pick (λ g. has_below ord x l A g k.1) (or_out (alike t.monomial x) (has x A) h)

@@ -11,15 +11,13 @@ use Rattle.divide_wholes.specs.MergeRow.{with_new_row}
 use Rattle.dividing_rounds.specs.Found.{term_at, IsNext, IsQuotientAt}
 use Rattle.dividing_rounds.specs.Runs.{DivideRun, RunWhole, IsKnownAt, workload, run_start, run_take, run_zero, run_rest, run_found, run_front, run_row, run_over, RunStart, RunTake, RunZero, RunRest, RunFound, RunFront, RunRow}
 use Rattle.dividing_rounds.specs.Stalls.{IsLowered}
-use Rattle.sdmp_laws.proofs.OrderLemmas.{alike_same}
-use Rattle.sdmp_laws.proofs.Tests.{or_out}
 use Rattle.sdmp_laws.proofs.NextTerm.{at_then_below}
 use Rattle.sdmp_laws.proofs.DivisionLemmas.{AllBelow-append}
 use Rattle.sdmp_laws.proofs.LongLemmas.{over_times}
 use Rattle.divide_wholes.proofs.Candidate.{candidate_bound, candidate_term}
 use Rattle.divide_wholes.proofs.StartLemmas.{divide_start_law}
 use Rattle.divide_wholes.proofs.TakeLemmas.{divide_take_law, divide_front}
-use Rattle.divide_wholes.proofs.ProcessLemmas.{divide_zero, divide_kept, divide_found}
+use Rattle.divide_wholes.proofs.ProcessLemmas.{has_below, divide_zero, divide_kept, divide_found}
 use Rattle.divide_wholes.proofs.MergeRowLemmas.{row_start, row_found, row_fronted, row_kept, row_change}
 use Rattle.dividing_rounds.proofs.WorkloadLemmas.{bound_in_workload}
 use Rattle.dividing_rounds.proofs.LogLemmas.{empty_log, log_push, log_lower, log_more, workload_more}
@@ -108,15 +106,10 @@ either f g (inl a) = f a
 either f g (inr b) = g b
 
 -- ---- what is processed is below what was processed before, and stands in the workload
-read_below : (ord : Order) (l : List ℕ) (A : List Term) (x : List ℕ) → AllBelow ord l A → has x A ≡ true → Below ord x l
-unfolding has AllBelow
-read_below ord l [] x b h = absurd (true≢false (sym h))
-read_below ord l (t ∷ A) x b h = either (λ e. subst (λ (v : List ℕ). Below ord v l) (alike_same t.monomial x e) b.0) (λ k. read_below ord l A x b.1 k) (or_out (alike t.monomial x) (has x A) h)
-
 under_past : (s : DivideState) (x : List ℕ) (last : Option (List ℕ)) → has x (s.unread ++ head_terms s.heads) ≡ true → IsPast s last → IsUnder s.division.ord last x
 unfolding IsPast IsUnder
 under_past s x None h p = tt
-under_past s x (Some l) h p = read_below s.division.ord l (s.unread ++ head_terms s.heads) x (AllBelow-append s.division.ord l s.unread (head_terms s.heads) p.0 p.1) h
+under_past s x (Some l) h p = has_below s.division.ord x l (s.unread ++ head_terms s.heads) h (AllBelow-append s.division.ord l s.unread (head_terms s.heads) p.0 p.1)
 
 known_read : (s : DivideState) (x : List ℕ) → has x (s.unread ++ head_terms s.heads) ≡ true → IsKnownAt s x
 unfolding IsKnownAt
