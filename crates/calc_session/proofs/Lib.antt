@@ -6,4 +6,5 @@ pub mod DefinitionLemmas
 pub mod CommandLemmas
 pub mod Places
 pub mod SessionLemmas
+pub mod HeadLemmas
 mod Examples

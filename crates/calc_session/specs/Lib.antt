@@ -6,6 +6,7 @@ pub mod Body
 pub mod Product
 pub mod Quotient
 pub mod Session
+pub mod Heads
 pub mod Definitions
 pub mod View
 pub mod Says

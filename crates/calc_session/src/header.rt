@@ -1,9 +1,10 @@
 //! The lines before the body.
-ghost use Rattle.std.specs.Prelude.{◌≡◌, ◌≢◌, ◌+◌, ◌≤◌, length, IfOk, IfErr};
+ghost use Rattle.std.specs.Prelude.{◌≡◌, ◌≢◌, ◌+◌, ◌≤◌, length, IfOk, IfErr, MatchResult, None, Some};
 ghost use Rattle.calc_session.specs.Lines.{lines};
 ghost use Rattle.calc_session.specs.Header.{IsChoice, characteristic_of};
 ghost use Rattle.calc_session.specs.Faults.{fault_line};
 ghost use Rattle.calc_session.specs.Answers.{refused};
+ghost use Rattle.calc_session.specs.Heads.{head_of};
 ghost use Rattle.calc_session.specs.Session.{Monomials, answers, body_answers, setting_of, undefined};
 
 use crate::effective::effective_line;
@@ -36,6 +37,10 @@ pub fn parse_header(alloc: Global, bytes: &[u8]) -> Result<Header<'_>, HeaderFau
     ensures header { IfOk
         result
         (λ h. (monomials : Monomials) → answers monomials bytes.now ≡ body_answers (setting_of monomials h.names (characteristic_of h.ring)) undefined h.line (lines h.body.now)) }
+    ensures head { MatchResult
+        result
+        (λ h. head_of bytes.now ≡ Some record { variables = h.names; modulus = characteristic_of h.ring; body = lines h.body.now })
+        (λ e. e.fault ≢ LineFault.NoMemory → head_of bytes.now ≡ None) }
     ensures ring { IfOk result (λ h. IsChoice h.ring) }
     ensures within { IfOk result (λ h. h.line + length h.body.now ≤ 1 + length bytes.now) }
     ensures refused { IfErr result (λ e. e.fault ≢ LineFault.NoMemory → (monomials : Monomials) → answers monomials bytes.now ≡ refused (fault_line e.line e.fault)) }

@@ -9,3 +9,5 @@ mod next;
 
 pub use alone::divide_alone;
 pub use answer::{DivideFault, Division};
+pub use bound::{Norms, QUOTIENT_TERMS, with_term};
+pub use fit::{Leading, find};

@@ -62,7 +62,7 @@ impl<R: CoeffRing, M: Monomial> RowReader<R, M> {
         requires { IsReaderOf row.now self.old }
         ensures of { IsReaderOf row.now self.new }
         ensures loads { count_loads self.new ≡ count_loads self.old + 1 }
-        ensures count { count_seen self.old ≤ count_seen self.new }
+        ensures count { (count_seen self.old ≤ count_seen self.new) × (count_seen self.new ≤ places_of row.now) }
         ensures told { told_published self.new ≡ told_published self.old }
         ensures next { Comparable (known self.new) (told_published self.old) }
         ensures known { IfOk result (λ n. known self.new ≡ known self.old ++ n ∷ []) }

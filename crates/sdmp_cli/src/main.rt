@@ -1,7 +1,7 @@
 //! The program: it answers the session on standard input, and its exit status says how the run ended.
 #![tactic(auto)]
 
-use sdmp_top::{RealSink, RealSource, Status, run};
+use sdmp_top::{Ends, RealSink, RealSource, Status, run};
 use std::env;
 use std::io::ErrorKind;
 use std::process::ExitCode;
@@ -19,7 +19,16 @@ fn main(rt: HostRuntime) -> ExitCode {
             }
             let mut source = RealSource::new(rt.stdin());
             let mut sink = RealSink::new(rt.stdout());
-            run(&rt, rt.alloc(), &words, &mut source, &mut sink, &OpenGate)
+            let mut ends = Ends::new();
+            run(
+                &rt,
+                rt.alloc(),
+                &words,
+                &mut source,
+                &mut sink,
+                &OpenGate,
+                &mut ends,
+            )
         }
         Err(error) if error.kind() == ErrorKind::OutOfMemory => Status::NoMemory,
         // a word that isn't UTF-8

@@ -5,3 +5,4 @@ pub mod DivisionLemmas
 pub mod LineLemmas
 pub mod SettingLemmas
 pub mod FactorLemmas
+pub mod WorkLemmas

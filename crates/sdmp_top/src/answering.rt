@@ -1,12 +1,14 @@
 //! The lines of a session are answered one by one.
-ghost use Rattle.std.specs.Prelude.{◌≡◌, ◌+◌, ◌≤◌, ◌∷◌, [], ℕ, List, length, Ok, OnErr};
+ghost use Rattle.std.specs.Prelude.{◌≡◌, ◌+◌, ◌≤◌, ◌∷◌, [], ℕ, List, length, Ok, OnOk, OnErr};
 ghost use Rattle.calc_session.specs.Answers.{before, refused};
 ghost use Rattle.calc_session.specs.Lines.{lines};
 ghost use Rattle.calc_session.specs.View.{answers_of};
+ghost use Rattle.sdmp_top.specs.Work.{IsTallied, IsTalliedUpTo, calculations_by, tally_of};
 ghost use Rattle.sdmp_top.specs.Written.{IsAnswering};
 
 use crate::answering_fault::AnsweringFault;
 use crate::commands::answer_line;
+use crate::ends::Ends;
 use crate::outside::Sink;
 use crate::workers::Workers;
 use crate::writing::write_all;
@@ -29,6 +31,7 @@ pub enum Next {
 fn answer<T: Threads + Sync, G: Gate, R: CoeffRing, M: Monomial>(
     alloc: Global,
     by: &Workers<'_, T, G>,
+    ends: &mut Ends,
     session: &mut BodySession<R, M>,
     number: u64,
     line: &[u8],
@@ -40,8 +43,12 @@ fn answer<T: Threads + Sync, G: Gate, R: CoeffRing, M: Monomial>(
     ensures refused { result ≡ Ok Next.Refused → (later : List (List ℕ))
         → answers_of session.old number (line.now ∷ later) ≡ refused out.new.items }
     ensures wanting { OnErr result (out.new.items ≡ []) }
+    ensures more_tallied { result ≡ Ok Next.More → (later : List (List ℕ))
+        → IsTalliedUpTo by.now.workers (calculations_by session.old (line.now ∷ later)) (calculations_by session.new later) (tally_of ends.old) (tally_of ends.new) }
+    ensures refused_tallied { result ≡ Ok Next.Refused → (later : List (List ℕ))
+        → IsTalliedUpTo by.now.workers (calculations_by session.old (line.now ∷ later)) [] (tally_of ends.old) (tally_of ends.new) }
 {
-    let Err(fault) = answer_line(alloc, by, session, line, out) else {
+    let Err(fault) = answer_line(alloc, by, ends, session, line, out) else {
         return Ok(Next::More);
     };
     if let LineFault::NoMemory = fault {
@@ -57,13 +64,15 @@ fn answer<T: Threads + Sync, G: Gate, R: CoeffRing, M: Monomial>(
 pub fn answer_lines<T: Threads + Sync, G: Gate, R: CoeffRing, M: Monomial, K: Sink>(
     alloc: Global,
     by: &Workers<'_, T, G>,
+    ends: &mut Ends,
     session: &mut BodySession<R, M>,
     first: u64,
     body: &[u8],
     sink: &mut K,
 ) -> Result<Ending, AnsweringFault>
     requires { first + length body.now ≤ u64.MAX }
-    ensures { IsAnswering (answers_of session.old first (lines body.now)) (K.held sink.old) (K.held sink.new) (K.faults sink.old) (K.faults sink.new) (K.at_last sink.new) result }
+    ensures answering { IsAnswering (answers_of session.old first (lines body.now)) (K.held sink.old) (K.held sink.new) (K.faults sink.old) (K.faults sink.new) (K.at_last sink.new) result }
+    ensures tallied { OnOk result (IsTallied by.now.workers (calculations_by session.old (lines body.now)) (tally_of ends.old) (tally_of ends.new)) }
 {
     let mut number = first;
     let mut rest = body;
@@ -71,7 +80,7 @@ pub fn answer_lines<T: Threads + Sync, G: Gate, R: CoeffRing, M: Monomial, K: Si
     while !rest.is_empty() {
         let (line, later) = split_line(rest);
         out.clear();
-        let Ok(next) = answer(alloc, by, session, number, line, &mut out) else {
+        let Ok(next) = answer(alloc, by, ends, session, number, line, &mut out) else {
             return Err(AnsweringFault::NoMemory);
         };
         if write_all(sink, &out).is_err() {

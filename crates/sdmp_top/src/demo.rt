@@ -5,9 +5,11 @@ ghost use Rattle.calc_session.specs.Session.{answers};
 ghost use Rattle.sdmp_top.specs.Monomials.{packed};
 ghost use Rattle.calc_session.specs.Demo.{summary, demo_input as demo_input_of};
 ghost use Rattle.sdmp_top.specs.Outside.{last_count};
+ghost use Rattle.sdmp_top.specs.Work.{IsTallied, calculations, tally_of};
 ghost use Rattle.sdmp_top.specs.Written.{demo_text};
 
 use crate::dispatch::answer_input;
+use crate::ends::Ends;
 use crate::outside::{Failed, Sink};
 use crate::workers::Workers;
 use calc_session::{Ending, demo_input};
@@ -28,16 +30,18 @@ pub struct Summary {
 pub fn demo_summary<T: Threads + Sync, G: Gate>(
     alloc: Global,
     by: &Workers<'_, T, G>,
+    ends: &mut Ends,
     seed: u64,
 ) -> Result<Summary, NoMemory>
     ensures text { IfOk result (λ s. s.text.items ≡ demo_text seed) }
     ensures ending { IfOk result (λ s. s.ending ≡ (answers packed (demo_input_of seed)).ending) }
+    ensures tallied { OnOk result (IsTallied by.now.workers (calculations packed (demo_input_of seed)) (tally_of ends.old) (tally_of ends.new)) }
 {
     let Ok(input) = demo_input(alloc, seed) else {
         return Err(NoMemory);
     };
     let mut gathered = Gathered::new(alloc);
-    let Ok(ending) = answer_input(alloc, by, &input, &mut gathered) else {
+    let Ok(ending) = answer_input(alloc, by, ends, &input, &mut gathered) else {
         return Err(NoMemory);
     };
     let mut text = Vec::new(alloc);

@@ -1,5 +1,5 @@
 //! One session for each number of variables and each ring.
-ghost use Rattle.std.specs.Prelude.{◌≡◌, ◌≢◌, ◌+◌, ◌≤◌, Err, IfOk, IsErrOf, length};
+ghost use Rattle.std.specs.Prelude.{◌≡◌, ◌≢◌, ◌+◌, ◌≤◌, Err, IfOk, IsErrOf, OnOk, length};
 ghost use Rattle.calc_session.specs.Lines.{lines};
 ghost use Rattle.calc_session.specs.Header.{IsChoice, characteristic_of};
 ghost use Rattle.calc_session.specs.Faults.{fault_line};
@@ -7,10 +7,12 @@ ghost use Rattle.calc_session.specs.Answers.{Answers, refused, text};
 ghost use Rattle.calc_session.specs.Session.{answers, body_answers, setting_of, undefined};
 ghost use Rattle.sdmp_top.specs.Monomials.{packed};
 ghost use Rattle.sdmp_top.specs.Outside.{Appends, AppendsPart, Rose};
+ghost use Rattle.sdmp_top.specs.Work.{IsTallied, body_calculations, calculations, tally_of};
 ghost use Rattle.sdmp_top.specs.Written.{AppendsPieces, IsAnswering};
 
 use crate::answering::answer_lines;
 use crate::answering_fault::AnsweringFault;
+use crate::ends::Ends;
 use crate::outside::Sink;
 use crate::workers::Workers;
 use crate::writing::write_all;
@@ -28,6 +30,7 @@ use turnstile::Gate;
 pub fn answer_input<T: Threads + Sync, G: Gate, K: Sink>(
     alloc: Global,
     by: &Workers<'_, T, G>,
+    ends: &mut Ends,
     input: &[u8],
     sink: &mut K,
 ) -> Result<Ending, AnsweringFault>
@@ -38,9 +41,10 @@ pub fn answer_input<T: Threads + Sync, G: Gate, K: Sink>(
     ensures later { K.faults sink.old ≤ K.faults sink.new }
     ensures rose { IsErrOf result AnsweringFault.WriteFault → Rose (K.faults sink.old) (K.faults sink.new) (K.at_last sink.new) }
     ensures steady { result ≢ Err AnsweringFault.WriteFault → K.faults sink.new ≡ K.faults sink.old }
+    ensures tallied { OnOk result (IsTallied by.now.workers (calculations packed input.now) (tally_of ends.old) (tally_of ends.new)) }
 {
     match parse_header(alloc, input) {
-        Ok(header) => answer_body(alloc, by, header, sink),
+        Ok(header) => answer_body(alloc, by, ends, header, sink),
         Err(HeaderFault { line, fault }) => refuse(alloc, line, fault, sink),
     }
 }
@@ -52,8 +56,9 @@ fn refuse<K: Sink>(
     fault: LineFault,
     sink: &mut K,
 ) -> Result<Ending, AnsweringFault>
-    ensures { (told : Answers) → (fault ≢ LineFault.NoMemory → told ≡ refused (fault_line line fault))
+    ensures answering { (told : Answers) → (fault ≢ LineFault.NoMemory → told ≡ refused (fault_line line fault))
         → IsAnswering told (K.held sink.old) (K.held sink.new) (K.faults sink.old) (K.faults sink.new) (K.at_last sink.new) result }
+    ensures told { OnOk result (fault ≢ LineFault.NoMemory) }
 {
     if let LineFault::NoMemory = fault {
         return Err(AnsweringFault::NoMemory);
@@ -69,12 +74,12 @@ fn refuse<K: Sink>(
 }
 
 macro_rules! by_variables {
-    ($alloc:expr, $by:expr, $header:expr, $sink:expr; $($n:literal),*) => {
+    ($alloc:expr, $by:expr, $ends:expr, $header:expr, $sink:expr; $($n:literal),*) => {
         match $header.names.len() {
             $($n => match $header.ring {
-                RingChoice::Integers => answer_in::<T, G, Integers, Packed<$n>, K>($alloc, $by, Integers, $header, $sink),
+                RingChoice::Integers => answer_in::<T, G, Integers, Packed<$n>, K>($alloc, $by, $ends, Integers, $header, $sink),
                 RingChoice::Modulus(p) => match Residues::new(p) {
-                    Some(ring) => answer_in::<T, G, Residues, Packed<$n>, K>($alloc, $by, ring, $header, $sink),
+                    Some(ring) => answer_in::<T, G, Residues, Packed<$n>, K>($alloc, $by, $ends, ring, $header, $sink),
                     None => unreachable!(),
                 },
             },)*
@@ -87,20 +92,23 @@ macro_rules! by_variables {
 fn answer_body<T: Threads + Sync, G: Gate, K: Sink>(
     alloc: Global,
     by: &Workers<'_, T, G>,
+    ends: &mut Ends,
     header: Header<'_>,
     sink: &mut K,
 ) -> Result<Ending, AnsweringFault>
     requires ring { IsChoice header.ring }
     requires numbers { header.line + length header.body.now ≤ u64.MAX }
-    ensures { IsAnswering (body_answers (setting_of packed header.entry.names (characteristic_of header.entry.ring)) undefined header.entry.line (lines header.entry.body.now)) (K.held sink.old) (K.held sink.new) (K.faults sink.old) (K.faults sink.new) (K.at_last sink.new) result }
+    ensures answering { IsAnswering (body_answers (setting_of packed header.entry.names (characteristic_of header.entry.ring)) undefined header.entry.line (lines header.entry.body.now)) (K.held sink.old) (K.held sink.new) (K.faults sink.old) (K.faults sink.new) (K.at_last sink.new) result }
+    ensures tallied { OnOk result (IsTallied by.now.workers (body_calculations (setting_of packed header.entry.names (characteristic_of header.entry.ring)) undefined (lines header.entry.body.now)) (tally_of ends.old) (tally_of ends.new)) }
 {
-    by_variables!(alloc, by, header, sink; 1, 2, 3, 4, 5, 6, 7)
+    by_variables!(alloc, by, ends, header, sink; 1, 2, 3, 4, 5, 6, 7)
 }
 
 // The session of this ring and of these monomials.
 fn answer_in<T: Threads + Sync, G: Gate, R: CoeffRing, M: Monomial, K: Sink>(
     alloc: Global,
     by: &Workers<'_, T, G>,
+    ends: &mut Ends,
     ring: R,
     header: Header<'_>,
     sink: &mut K,
@@ -110,8 +118,17 @@ fn answer_in<T: Threads + Sync, G: Gate, R: CoeffRing, M: Monomial, K: Sink>(
     requires vars { M.VARS ≡ length header.names }
     requires limit { M.LIM ≡ packed.limit (length header.names) }
     requires numbers { header.line + length header.body.now ≤ u64.MAX }
-    ensures { IsAnswering (body_answers (setting_of packed header.entry.names (characteristic_of header.entry.ring)) undefined header.entry.line (lines header.entry.body.now)) (K.held sink.old) (K.held sink.new) (K.faults sink.old) (K.faults sink.new) (K.at_last sink.new) result }
+    ensures answering { IsAnswering (body_answers (setting_of packed header.entry.names (characteristic_of header.entry.ring)) undefined header.entry.line (lines header.entry.body.now)) (K.held sink.old) (K.held sink.new) (K.faults sink.old) (K.faults sink.new) (K.at_last sink.new) result }
+    ensures tallied { OnOk result (IsTallied by.now.workers (body_calculations (setting_of packed header.entry.names (characteristic_of header.entry.ring)) undefined (lines header.entry.body.now)) (tally_of ends.old) (tally_of ends.new)) }
 {
     let mut session = BodySession::<R, M>::new(alloc, ring, header.names);
-    answer_lines(alloc, by, &mut session, header.line, header.body, sink)
+    answer_lines(
+        alloc,
+        by,
+        ends,
+        &mut session,
+        header.line,
+        header.body,
+        sink,
+    )
 }

@@ -7,6 +7,7 @@ mod commands;
 mod demo;
 mod dispatch;
 mod division;
+mod ends;
 mod intake;
 mod memory;
 mod outside;
@@ -19,6 +20,7 @@ mod tests;
 mod workers;
 mod writing;
 
+pub use ends::Ends;
 pub use memory::{MemorySink, MemorySource};
 pub use outside::{Failed, Sink, Source};
 pub use real::{RealSink, RealSource};

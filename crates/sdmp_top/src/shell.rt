@@ -5,12 +5,15 @@ ghost use Rattle.calc_session.specs.Session.{answers};
 ghost use Rattle.sdmp_top.specs.Monomials.{packed};
 ghost use Rattle.sdmp_words.specs.Words.{settings_of};
 ghost use Rattle.sdmp_words.specs.declared.settings.Settings.{Settings};
+ghost use Rattle.calc_session.specs.Demo.{demo_input};
 ghost use Rattle.sdmp_top.specs.Outside.{AppendsPart, DidNotFail, Rose};
+ghost use Rattle.sdmp_top.specs.Work.{IsTallied, IsTalliedRun, calculations, tally_of};
 ghost use Rattle.sdmp_top.specs.Written.{Answered, AppendsPieces, IsAnsweredStatus, demo_answers, wanted};
 
 use crate::answering_fault::AnsweringFault;
 use crate::demo::demo_summary;
 use crate::dispatch::answer_input;
+use crate::ends::Ends;
 use crate::intake::{IntakeFault, MAX_INPUT, read_all};
 use crate::outside::{Failed, Sink, Source};
 use crate::status::Status;
@@ -24,7 +27,7 @@ use turnstile::Gate;
 
 /// The whole run: reads the words, then the whole input, and then answers line by line. With `--demo` it reads no input, answers that of the demo, and writes a summary in place of the answers.
 ///
-/// Products are made by so many workers as the words say, in threads of their own where `threads` can make them; `gate` is where each worker arrives. The answers are the same for every order of their steps.
+/// Products are made by so many workers as the words say, and divisions by at most as many, in threads of their own where `threads` can make them; `gate` is where each worker arrives. The answers are the same for every order of their steps. `ends` counts each product and division when it is made.
 ///
 /// Want of memory is the one answer that may come at any time.
 pub fn run<T: Threads + Sync, S: Source, K: Sink, G: Gate>(
@@ -34,6 +37,7 @@ pub fn run<T: Threads + Sync, S: Source, K: Sink, G: Gate>(
     source: &mut S,
     sink: &mut K,
     gate: &G,
+    ends: &mut Ends,
 ) -> Status
     // Where neither end fails, the input isn't too long and memory isn't wanting, exactly the answers are written.
     ensures exact { (settings : Settings) → settings_of (map string_bytes words.now) ≡ Some settings
@@ -48,8 +52,8 @@ pub fn run<T: Threads + Sync, S: Source, K: Sink, G: Gate>(
         → (told : Answers) → wanted settings.demo (S.left source.old) ≡ Some told
         → Answered told result (K.held sink.old) (K.held sink.new) (K.flushed sink.new) }
     ensures flushed { IsAnsweredStatus result → K.flushed sink.new ≡ true }
-    ensures ended { IsAnsweredStatus result → (settings : Settings) → settings_of (map string_bytes words.now) ≡ Some settings → settings.demo ≡ None
-        → (input : List ℕ) → S.left source.old ≡ Some input → S.left source.new ≡ Some [] }
+    ensures ended { IsAnsweredStatus result → (settings : Settings) → settings_of (map string_bytes words.now) ≡ Some settings → settings.demo ≡ None → (input : List ℕ) → S.left source.old ≡ Some input → S.left source.new ≡ Some [] }
+    ensures tallied { IsAnsweredStatus result → (settings : Settings) → settings_of (map string_bytes words.now) ≡ Some settings → IsTalliedRun settings (S.left source.old) (tally_of ends.old) (tally_of ends.new) }
     // The words.
     ensures bad_words { result ≡ Status.BadWords → settings_of (map string_bytes words.now) ≡ None }
     ensures words { settings_of (map string_bytes words.now) ≡ None → (result ≡ Status.BadWords) ⊎ (result ≡ Status.NoMemory) }
@@ -79,8 +83,8 @@ pub fn run<T: Threads + Sync, S: Source, K: Sink, G: Gate>(
         Ok(settings) => {
             let by = Workers::new(threads, gate, settings);
             match settings.demo {
-                None => run_session(alloc, &by, source, sink),
-                Some(seed) => run_demo(alloc, &by, seed, sink),
+                None => run_session(alloc, &by, ends, source, sink),
+                Some(seed) => run_demo(alloc, &by, ends, seed, sink),
             }
         }
         Err(WordsFault::BadWords) => Status::BadWords,
@@ -92,12 +96,15 @@ pub fn run<T: Threads + Sync, S: Source, K: Sink, G: Gate>(
 fn run_session<T: Threads + Sync, G: Gate, S: Source, K: Sink>(
     alloc: Global,
     by: &Workers<'_, T, G>,
+    ends: &mut Ends,
     source: &mut S,
     sink: &mut K,
 ) -> Status
     ensures answered { IsAnsweredStatus result → (input : List ℕ) → S.left source.old ≡ Some input
         → Answered (answers packed input) result (K.held sink.old) (K.held sink.new) (K.flushed sink.new) }
     ensures flushed { IsAnsweredStatus result → K.flushed sink.new ≡ true }
+    ensures tallied { IsAnsweredStatus result → (input : List ℕ) → S.left source.old ≡ Some input
+        → IsTallied by.now.workers (calculations packed input) (tally_of ends.old) (tally_of ends.new) }
     ensures ended { IsAnsweredStatus result → (input : List ℕ) → S.left source.old ≡ Some input → S.left source.new ≡ Some [] }
     ensures words { result ≢ Status.BadWords }
     ensures read_fault { result ≡ Status.ReadFault → Rose (S.faults source.old) (S.faults source.new) (S.at_last source.new) }
@@ -126,7 +133,7 @@ fn run_session<T: Threads + Sync, G: Gate, S: Source, K: Sink>(
         Err(IntakeFault::TooLong) => return Status::TooLong,
         Err(IntakeFault::NoMemory) => return Status::NoMemory,
     };
-    match answer_input(alloc, by, &input, sink) {
+    match answer_input(alloc, by, ends, &input, sink) {
         Ok(Ending::Done) => flush_after(sink, Status::Done),
         Ok(Ending::Refused) => flush_after(sink, Status::Refused),
         Err(AnsweringFault::WriteFault) => Status::WriteFault,
@@ -138,18 +145,20 @@ fn run_session<T: Threads + Sync, G: Gate, S: Source, K: Sink>(
 fn run_demo<T: Threads + Sync, G: Gate, K: Sink>(
     alloc: Global,
     by: &Workers<'_, T, G>,
+    ends: &mut Ends,
     seed: u64,
     sink: &mut K,
 ) -> Status
     ensures answered { IsAnsweredStatus result → Answered (demo_answers seed) result (K.held sink.old) (K.held sink.new) (K.flushed sink.new) }
     ensures flushed { IsAnsweredStatus result → K.flushed sink.new ≡ true }
+    ensures tallied { IsAnsweredStatus result → IsTallied by.now.workers (calculations packed (demo_input seed)) (tally_of ends.old) (tally_of ends.new) }
     ensures told { IsAnsweredStatus result ⊎ (result ≡ Status.WriteFault) ⊎ (result ≡ Status.NoMemory) }
     ensures write_fault { result ≡ Status.WriteFault → Rose (K.faults sink.old) (K.faults sink.new) (K.at_last sink.new) }
     ensures sink_steady { result ≢ Status.WriteFault → K.faults sink.new ≡ K.faults sink.old }
     ensures part { result ≡ Status.WriteFault → AppendsPart (K.held sink.old) (K.held sink.new) (text (demo_answers seed)) }
     ensures no_memory { result ≡ Status.NoMemory → sink.new ≡ sink.old }
 {
-    let Ok(summary) = demo_summary(alloc, by, seed) else {
+    let Ok(summary) = demo_summary(alloc, by, ends, seed) else {
         return Status::NoMemory;
     };
     if write_all(sink, &summary.text).is_err() {

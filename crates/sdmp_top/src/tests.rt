@@ -1,6 +1,6 @@
 ghost use Rattle.std.specs.Prelude.{◌<◌};
 
-use crate::{CountSink, MemorySink, MemorySource, Status, SteadySource, run};
+use crate::{CountSink, Ends, MemorySink, MemorySource, Status, SteadySource, run};
 use std::alloc::Global;
 use std::test::Fail;
 use std::thread::Threads;
@@ -10,17 +10,18 @@ mod broken;
 mod divisions;
 mod gates;
 mod large;
+mod tallies;
 
 // What a run on a session meets: the read and the write that fail, and what the sink takes in all and at a time.
 #[derive(Clone, Copy)]
-struct Ends {
+struct Outside {
     failing_read: Option<u64>,
     room: usize,
     chunk: usize,
     failing_write: Option<u64>,
 }
 
-const STEADY: Ends = Ends {
+const STEADY: Outside = Outside {
     failing_read: None,
     room: 1_000_000,
     chunk: 4096,
@@ -41,19 +42,27 @@ fn answer<T: Threads + Sync>(
     alloc: Global,
     session: &[u8],
     words: &str,
-    ends: &Ends,
+    outside: &Outside,
 ) -> Result<(Vec<u8>, Status), Fail>
-    requires { 0 < ends.now.chunk }
+    requires { 0 < outside.now.chunk }
 {
     let mut list = Vec::new(alloc);
     for word in words.split_whitespace() {
         list.push(String::from_str(alloc, word)?)?;
     }
-    let reads = only(alloc, ends.failing_read)?;
-    let writes = only(alloc, ends.failing_write)?;
+    let reads = only(alloc, outside.failing_read)?;
+    let writes = only(alloc, outside.failing_write)?;
     let mut source = MemorySource::new(session.to_vec(alloc)?, 8, reads);
-    let mut sink = MemorySink::new(alloc, ends.room, ends.chunk, writes)?;
-    let status = run(threads, alloc, &list, &mut source, &mut sink, &OpenGate);
+    let mut sink = MemorySink::new(alloc, outside.room, outside.chunk, writes)?;
+    let status = run(
+        threads,
+        alloc,
+        &list,
+        &mut source,
+        &mut sink,
+        &OpenGate,
+        &mut Ends::new(),
+    );
     Ok((sink.bytes().to_vec(alloc)?, status))
 }
 
@@ -194,16 +203,34 @@ fn names_the_first_fault(rt: HostRuntime) -> Result<(), Fail> {
 fn refuses_a_long_input(rt: HostRuntime) -> Result<(), Fail> {
     let mut source = SteadySource::new(vec![in rt.alloc(); b'\n'; 67_108_865]?);
     let mut sink = CountSink::new();
+    let mut ends = Ends::new();
     assert_eq!(rt;
-        run(&rt, rt.alloc(), &[], &mut source, &mut sink, &OpenGate),
+        run(
+            &rt,
+            rt.alloc(),
+            &[],
+            &mut source,
+            &mut sink,
+            &OpenGate,
+            &mut ends
+        ),
         Status::TooLong
     );
     assert_eq!(rt; sink.count(), 0);
     let mut source = SteadySource::new(FIRST.as_bytes().to_vec(rt.alloc())?);
     assert_eq!(rt;
-        run(&rt, rt.alloc(), &[], &mut source, &mut sink, &OpenGate),
+        run(
+            &rt,
+            rt.alloc(),
+            &[],
+            &mut source,
+            &mut sink,
+            &OpenGate,
+            &mut ends
+        ),
         Status::Done
     );
+    assert_eq!(rt; ends.products.products(), 1);
     assert_eq!(rt; sink.count(), 6);
     Ok(())
 }

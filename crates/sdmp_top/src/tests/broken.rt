@@ -1,15 +1,15 @@
-use super::{Ends, FIRST, STEADY, answer};
+use super::{FIRST, Outside, STEADY, answer};
 use crate::Status;
 use std::test::Fail;
 
 #[test]
 fn reads_fail(rt: HostRuntime) -> Result<(), Fail> {
     for call in 0..7 {
-        let ends = Ends {
+        let outside = Outside {
             failing_read: Some(call),
             ..STEADY
         };
-        let (written, ended) = answer(&rt, rt.alloc(), FIRST.as_bytes(), "", &ends)?;
+        let (written, ended) = answer(&rt, rt.alloc(), FIRST.as_bytes(), "", &outside)?;
         if call < 6 {
             assert!(rt; written.is_empty(), "{call}");
             assert_eq!(rt; ended, Status::ReadFault, "{call}");
@@ -31,13 +31,13 @@ fn writes_fail(rt: HostRuntime) -> Result<(), Fail> {
         (4, 8, None, "x^2-", Status::WriteFault),
     ];
     for (room, chunk, failing_write, text, status) in rows {
-        let ends = Ends {
+        let outside = Outside {
             failing_read: None,
             room,
             chunk,
             failing_write,
         };
-        let (written, ended) = answer(&rt, rt.alloc(), FIRST.as_bytes(), "", &ends)?;
+        let (written, ended) = answer(&rt, rt.alloc(), FIRST.as_bytes(), "", &outside)?;
         assert_eq!(rt; written.as_slice(), text.as_bytes());
         assert_eq!(rt; ended, status, "{text}");
     }

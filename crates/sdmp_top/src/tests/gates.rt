@@ -1,4 +1,4 @@
-use crate::{MemorySink, MemorySource, Status, run};
+use crate::{Ends, MemorySink, MemorySource, Status, run};
 use std::sync::atomic::AtomicU64;
 use std::sync::atomic::Ordering::SeqCst;
 use std::test::Fail;
@@ -43,20 +43,29 @@ impl Gate for PairGate {
 #[test]
 fn two_workers_run_beside_each_other(rt: HostRuntime) -> Result<(), Fail> {
     let alloc = rt.alloc();
-    let gate = PairGate {
-        first: AtomicU64::new(0),
-        second: AtomicU64::new(0),
-        given_up: AtomicU64::new(0),
-    };
-    let session = b"vars x y\nring Z\na = x+y\nb = x-y\nmul a b\n";
-    let mut source = MemorySource::new(session.to_vec(alloc)?, 8, Vec::new(alloc));
-    let mut sink = MemorySink::new(alloc, 1_000, 4096, Vec::new(alloc))?;
-    let words = [String::from_str(alloc, "--workers=2")?];
-    let status = run(&rt, alloc, &words, &mut source, &mut sink, &gate);
-    assert_eq!(rt; status, Status::Done);
-    assert_eq!(rt; sink.bytes(), b"x^2-y^2\n".as_slice());
-    assert_eq!(rt; gate.first.load(SeqCst), 1);
-    assert_eq!(rt; gate.second.load(SeqCst), 1);
-    assert_eq!(rt; gate.given_up.load(SeqCst), 0);
+    let rows = [
+        ("vars x y\nring Z\na = x+y\nb = x-y\nmul a b\n", "x^2-y^2\n"),
+        (
+            "vars x y\nring Z\na = x^2-y^2+x+y\nb = x-y+1\ndiv a b\n",
+            "x+y\n",
+        ),
+    ];
+    for (session, text) in rows {
+        let gate = PairGate {
+            first: AtomicU64::new(0),
+            second: AtomicU64::new(0),
+            given_up: AtomicU64::new(0),
+        };
+        let mut source = MemorySource::new(session.as_bytes().to_vec(alloc)?, 8, Vec::new(alloc));
+        let mut sink = MemorySink::new(alloc, 1_000, 4096, Vec::new(alloc))?;
+        let words = [String::from_str(alloc, "--workers=2")?];
+        let mut ends = Ends::new();
+        let status = run(&rt, alloc, &words, &mut source, &mut sink, &gate, &mut ends);
+        assert_eq!(rt; status, Status::Done, "{session}");
+        assert_eq!(rt; sink.bytes(), text.as_bytes(), "{session}");
+        assert_eq!(rt; gate.first.load(SeqCst), 1, "{session}");
+        assert_eq!(rt; gate.second.load(SeqCst), 1, "{session}");
+        assert_eq!(rt; gate.given_up.load(SeqCst), 0, "{session}");
+    }
     Ok(())
 }

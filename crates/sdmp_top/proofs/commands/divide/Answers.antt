@@ -1,4 +1,4 @@
-use Rattle.std.proofs.Common.{rules, ◌∙◌, sym}
+use Rattle.std.proofs.Common.{rules, List, ◌∙◌, sym, subst}
 use Rattle.std.proofs.lemmas.Result.{on_ok_weaker}
 use Rattle.sdmp_laws.specs.declared.Mode.TheVariants.{Exact}
 use Rattle.division_laws.specs.Outcome.{IsOutcome, HasQuotient, HasNoQuotient, division}
@@ -6,6 +6,8 @@ use Rattle.calc_session.specs.View.{held}
 use Rattle.poly_text.proofs.Results.{passed_up}
 use Rattle.calc_session.proofs.CommandLemmas.{divided_err, div_ok, div_none}
 use Rattle.sdmp_top.proofs.SettingLemmas.{outcome_there, undivided_there, both_there, line_there}
+use Rattle.sdmp_top.specs.Work.{Calculation, IsTallied, tally_of}
+use Rattle.sdmp_top.proofs.WorkLemmas.{div_makes}
 use Rattle.sdmp_top.proofs.commands.divide.Goals as goal
 
 pub quotient-requires-clause-moduli : goal.quotient-requires-clause-moduli
@@ -52,4 +54,28 @@ returns-in-None-clause-ok g c =
     on_ok_weaker c.write_none.result
     (λ e. div_none S D g.M.Monomial.VARS f.modulus c.args.a.now c.args.b.now c.write_none.new.out.items f.list h.list c.in_ok-f.ensures.known c.in_ok-g.ensures.known both
     (outcome_there _ _ g.M.Monomial.VARS S is Exact f.modulus f.list h.list HasNoQuotient outcome) e)
+    c.write_none.ensures.ok
+
+pub returns-in-Some-clause-tallied : goal.returns-in-Some-clause-tallied
+returns-in-Some-clause-tallied g c =
+    let S = c.args.session.now.setting in
+    let D = held c.args.session.now.defined in
+    let f = c.in_ok-f.f.now in
+    let h = c.in_ok-g.g.now in
+    on_ok_weaker c.write_line.result
+    (λ _. subst (λ (made : List Calculation). IsTallied c.args.by.now.workers made (tally_of c.args.ends.now) (tally_of c.quotient.new.ends))
+    (div_makes _ _ g.M.Monomial.VARS S c.names-names.ensures.setting D c.args.a.now c.args.b.now f.list h.list f.modulus c.in_ok-f.ensures.known c.in_ok-g.ensures.known c.in_ok-f.ensures.modulus)
+    c.in_ok-quotient.ensures.tallied)
+    c.write_line.ensures.ok
+
+pub returns-in-None-clause-tallied : goal.returns-in-None-clause-tallied
+returns-in-None-clause-tallied g c =
+    let S = c.args.session.now.setting in
+    let D = held c.args.session.now.defined in
+    let f = c.in_ok-f.f.now in
+    let h = c.in_ok-g.g.now in
+    on_ok_weaker c.write_none.result
+    (λ _. subst (λ (made : List Calculation). IsTallied c.args.by.now.workers made (tally_of c.args.ends.now) (tally_of c.quotient.new.ends))
+    (div_makes _ _ g.M.Monomial.VARS S c.names-names.ensures.setting D c.args.a.now c.args.b.now f.list h.list f.modulus c.in_ok-f.ensures.known c.in_ok-g.ensures.known c.in_ok-f.ensures.modulus)
+    c.in_ok-quotient.ensures.tallied)
     c.write_none.ensures.ok

@@ -1,11 +1,13 @@
-use Rattle.std.proofs.Common.{rules, ◌∙◌, sym}
+use Rattle.std.proofs.Common.{List, ◌∙◌, sym, subst}
 use Rattle.std.proofs.lemmas.Result.{on_ok_weaker}
 use Rattle.sdmp_laws.specs.declared.Mode.TheVariants.{Remainder}
-use Rattle.division_laws.specs.Outcome.{HasRemainder, division}
+use Rattle.division_laws.specs.Outcome.{HasRemainder}
 use Rattle.calc_session.specs.View.{held}
 use Rattle.poly_text.proofs.Results.{passed_up}
 use Rattle.calc_session.proofs.CommandLemmas.{divided_err, rem_ok}
 use Rattle.sdmp_top.proofs.SettingLemmas.{outcome_there, undivided_there, both_there, lines_there}
+use Rattle.sdmp_top.specs.Work.{Calculation, IsTallied, tally_of}
+use Rattle.sdmp_top.proofs.WorkLemmas.{rem_makes}
 use Rattle.sdmp_top.proofs.commands.divide_with_rest.Goals as goal
 
 pub remainder-requires-clause-moduli : goal.remainder-requires-clause-moduli
@@ -38,4 +40,16 @@ returns-clause-ok g c =
     (λ e. rem_ok S D g.M.Monomial.VARS f.modulus c.args.a.now c.args.b.now c.write_pair.new.out.items f.list h.list q r c.in_ok-f.ensures.known c.in_ok-g.ensures.known both
     (outcome_there _ _ g.M.Monomial.VARS S is Remainder f.modulus f.list h.list (HasRemainder q r) c.in_ok-divided.ensures.remainder)
     (lines_there c.write_pair.new.out.items c.names-names.result.now S.variables q r c.names-names.ensures.names e))
+    c.write_pair.ensures.ok
+
+pub returns-clause-tallied : goal.returns-clause-tallied
+returns-clause-tallied g c =
+    let S = c.args.session.now.setting in
+    let D = held c.args.session.now.defined in
+    let f = c.in_ok-f.f.now in
+    let h = c.in_ok-g.g.now in
+    on_ok_weaker c.write_pair.result
+    (λ _. subst (λ (made : List Calculation). IsTallied c.args.by.now.workers made (tally_of c.args.ends.now) (tally_of c.remainder.new.ends))
+    (rem_makes _ _ g.M.Monomial.VARS S c.names-names.ensures.setting D c.args.a.now c.args.b.now f.list h.list f.modulus c.in_ok-f.ensures.known c.in_ok-g.ensures.known c.in_ok-f.ensures.modulus)
+    c.in_ok-divided.ensures.tallied)
     c.write_pair.ensures.ok

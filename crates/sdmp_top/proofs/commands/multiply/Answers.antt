@@ -1,9 +1,11 @@
-use Rattle.std.proofs.Common.{◌∙◌, sym}
+use Rattle.std.proofs.Common.{List, ◌∙◌, sym, subst}
 use Rattle.std.proofs.lemmas.Result.{IfErr-weaker, on_ok_weaker}
 use Rattle.calc_session.specs.View.{held}
 use Rattle.poly_text.proofs.Results.{passed_up}
 use Rattle.calc_session.proofs.CommandLemmas.{mul_ok, mul_err, mul_left, mul_right}
 use Rattle.sdmp_top.proofs.SettingLemmas.{product_there, refused_there, line_there}
+use Rattle.sdmp_top.specs.Work.{Calculation, IsTallied, tally_of}
+use Rattle.sdmp_top.proofs.WorkLemmas.{mul_makes}
 use Rattle.sdmp_top.proofs.commands.multiply.Goals as goal
 
 pub returns-in_err-f-clause-refused : goal.returns-in_err-f-clause-refused
@@ -48,3 +50,18 @@ returns-clause-ok g c =
 
 pub returns-clause-refused : goal.returns-clause-refused
 returns-clause-refused g c = IfErr-weaker c.write_line.result _ _ (λ fault is other. absurd (other is)) c.write_line.ensures.fault
+
+pub returns-clause-tallied : goal.returns-clause-tallied
+returns-clause-tallied g c =
+    let S = c.args.session.now.setting in
+    let D = held c.args.session.now.defined in
+    let f = c.in_ok-f.f.now in
+    let h = c.in_ok-g.g.now in
+    on_ok_weaker c.write_line.result
+    (λ _. subst (λ (made : List Calculation). IsTallied c.args.by.now.workers made (tally_of c.args.ends.now) (tally_of c.product.new.ends))
+    (mul_makes _ _ g.M.Monomial.VARS S c.names-names.ensures.setting D c.args.a.now c.args.b.now f.list h.list f.modulus c.in_ok-f.ensures.known c.in_ok-g.ensures.known c.in_ok-f.ensures.modulus)
+    c.in_ok-product.ensures.tallied)
+    c.write_line.ensures.ok
+
+pub returns-clause-untallied : goal.returns-clause-untallied
+returns-clause-untallied g c = IfErr-weaker c.write_line.result _ _ (λ fault is other. absurd (other is)) c.write_line.ensures.fault

@@ -1,0 +1,7 @@
+use Rattle.term_ring.specs.Spelling.{words_of}
+use Rattle.term_ring.specs.Carried.{Fits}
+use Rattle.divide_merge.proofs.MomentLemmas.{division_at_each_moment}
+use Rattle.divide_merge.proofs.laws.division_at_each_moment.Goals as goal
+
+pub returns : goal.returns
+returns g c = division_at_each_moment (words_of g.M.Monomial.words g.R.CoeffRing.words) (Fits g.R.CoeffRing.belongs) g.M.Monomial.vector g.R.CoeffRing.value g.M.Monomial.LIM

@@ -1,0 +1,10 @@
+pub mod Verdicts
+pub mod Names
+pub mod Divisors
+pub mod Lower
+pub mod Merges
+pub mod Reading
+pub mod Steps
+pub mod Inside
+pub mod Reached
+pub mod Moments

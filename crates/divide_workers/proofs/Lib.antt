@@ -1,0 +1,12 @@
+pub mod Falling
+pub mod Paying
+pub mod Ahead
+pub mod Stepping
+pub mod Working
+pub mod Holding
+pub mod Hearing
+pub mod Rounding
+pub mod Bounding
+pub mod Teams
+pub mod Comparing
+pub mod Fields

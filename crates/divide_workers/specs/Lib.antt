@@ -1,0 +1,9 @@
+pub mod Fronts
+pub mod Paying
+pub mod Views
+pub mod Working
+pub mod Inside
+pub mod Steps
+pub mod Learning
+pub mod Stops
+pub mod Rounds

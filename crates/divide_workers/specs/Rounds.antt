@@ -1,0 +1,95 @@
+-- A team of dividing workers around a merge, and a round of it.
+use Rattle.std.specs.Prelude.{◌≡◌, ◌≢◌, ◌⊎◌, ℕ, ◌+◌, ◌<◌, ◌≤◌, false, List, [], length, slice_index_or, Option}
+use mathlib.Core.List.{IsPrefix}
+use Rattle.sdmp_laws.specs.Division.{Division}
+use Rattle.sdmp_laws.specs.LongDivision.{quotient_list}
+use Rattle.divide_wholes.specs.Row.{row_terms}
+use Rattle.term_ring.specs.Names.{RingName}
+use Rattle.term_ring.specs.Sending.{Sends, HasMet, IsRefused}
+use Rattle.dividing_rounds.specs.Stalls.{IsLowered}
+use Rattle.dividing_rounds.specs.Rounds.{progress, most_rounds}
+use Rattle.divide_merge.specs.Names.{RowIdentity}
+use Rattle.divide_merge.specs.Verdicts.{Verdict, RowIsFull, IsVerdict, kept_of}
+use Rattle.divide_merge.specs.Merges.{DivideView, taken_of, free_places}
+use Rattle.divide_workers.specs.Fronts.{front_mono}
+use Rattle.divide_workers.specs.Paying.{HasRows, IsMarked}
+use Rattle.divide_workers.specs.Views.{WorkerView, sender_of}
+use Rattle.divide_workers.specs.Working.{HasRoom}
+use Rattle.divide_workers.specs.Steps.{Works, HoldsBack, CatchesUp}
+
+-- the worker advanced until its ring was full, or it waited and its last look found nothing, or it has no rows
+pub record Moves (a b : WorkerView) : Type 0 where
+  pub works : Works a b
+  pub stopped : IsRefused (sender_of b) ⊎ (HasRows a.state → IsMarked b.state × HoldsBack b × (b.count ≡ length b.notes))
+
+pub record AllMove (a b : List WorkerView) : Type 0 where
+  pub long : length b ≡ length a
+  pub each : (k : ℕ) (d : WorkerView) → k < length a → Moves (slice_index_or a k d) (slice_index_or b k d)
+
+-- the worker and the merge have met; nothing was sent, and nothing else happened to the worker than that its ends saw more
+pub record Meets (m : DivideView) (a b : WorkerView) : Type 0 where
+  pub same : b ≡ record a { head = b.head; full_looks = b.full_looks; count = b.count; loads = b.loads; told = m.run.notes }
+  pub sends : Sends (sender_of a) (sender_of b)
+  pub met : HasMet m.run.state.taken m.tails (sender_of b)
+  pub count : a.count ≤ b.count
+  pub seen : length m.run.notes ≤ b.count
+  pub notes : IsPrefix b.notes m.run.notes
+
+pub record AllMeet (m : DivideView) (a b : List WorkerView) : Type 0 where
+  pub long : length b ≡ length a
+  pub each : (k : ℕ) (d : WorkerView) → k < length a → Meets m (slice_index_or a k d) (slice_index_or b k d)
+
+-- the worker has the number k, its ring is the k-th of these, with a place, and it reads this row
+pub record IsMember (rings : List RingName) (row : RowIdentity) (k : ℕ) (v : WorkerView) : Type 0 where
+  pub number : v.state.worker ≡ k
+  pub below : k < length rings
+  pub ring : (d : RingName) → slice_index_or rings k d ≡ v.ring
+  pub places : 0 < v.ring.places
+  pub row_is : v.row ≡ row
+
+pub record AreMembers (rings : List RingName) (row : RowIdentity) (team : List WorkerView) : Type 0 where
+  pub long : length team ≡ length rings
+  pub each : (k : ℕ) (d : WorkerView) → k < length team → IsMember rings row k (slice_index_or team k d)
+
+-- the worker's ends have seen all that the merge has taken and published, and it knows no more notes than were published
+pub record HasHeard (m : DivideView) (v : WorkerView) : Type 0 where
+  pub taken : IsPrefix (taken_of m v.state.worker) v.state.sent
+  pub head : length (taken_of m v.state.worker) ≤ v.head
+  pub count : length m.run.notes ≤ v.count
+  pub notes : IsPrefix v.notes m.run.notes
+
+abbrev pub IsTold : DivideView → List WorkerView → Type 0
+IsTold m team = (k : ℕ) (d : WorkerView) → k < length team → HasHeard m (slice_index_or team k d)
+
+-- where it has rows it has learned what it knows of the row, and has room for what the row may still tell; where it has none it knows no more than that; and while the row has no note its front is that of the merge or below
+pub record IsUpToDate (m : DivideView) (v : WorkerView) : Type 0 where
+  pub learned : HasRows v.state → length v.state.known ≡ m.run.state.start + length (row_terms v.notes)
+  pub few : length v.state.known ≤ m.run.state.start + length (row_terms v.notes)
+  pub room : HasRoom v
+  pub fronted : HasRows v.state → m.run.notes ≡ [] → IsLowered m.run.state.division.ord (front_mono v.front) m.run.state.front
+
+-- what is known of the workers at the beginning of a round
+pub record IsTeam (m : DivideView) (team : List WorkerView) : Type 0 where
+  pub members : AreMembers m.rings m.row team
+  pub told : IsTold m team
+  pub current : (k : ℕ) (d : WorkerView) → k < length team → IsUpToDate m (slice_index_or team k d)
+
+-- each worker goes on with this row
+pub record AllCatchUp (row : RowIdentity) (q : ℕ) (front : Option (List ℕ)) (a b : List WorkerView) : Type 0 where
+  pub long : length b ≡ length a
+  pub each : (k : ℕ) (d : WorkerView) → k < length a → CatchesUp row q front (slice_index_or a k d) (slice_index_or b k d)
+
+-- the row has a place, or the merge, as it is, has answered something else than that it needs one
+abbrev pub HasPlace : DivideView → Type 0
+HasPlace m = (length m.run.notes < m.row.places) ⊎ ((spare : ℕ) × (x : Verdict) × IsVerdict m.run.state (free_places m) spare x × (x ≢ RowIsFull))
+
+-- the merge gave this answer in the end of a round: it is over, or it has come farther
+pub record IsRound (a b : DivideView) (x : Verdict) : Type 0 where
+  pub answer : b.answer ≡ kept_of x
+  pub cause : IsVerdict b.run.state (free_places b) b.spare x
+  pub farther : b.run.over ≡ false → progress a.run < progress b.run
+
+-- ---- the rounds of a division
+-- 1 + 4*P + n + W*(n + 1), where n is the number of terms of q* and P that of f plus n times that of g less one
+abbrev pub rounds_bound : Division → ℕ → ℕ
+rounds_bound d W = most_rounds d W (length (quotient_list d))

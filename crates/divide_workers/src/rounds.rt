@@ -1,0 +1,145 @@
+//! The rounds of a division.
+
+use crate::part::Worker;
+use crate::round::round;
+use crate::team::Job;
+use canonical_terms::Term;
+use coeff_ring::CoeffRing;
+use divide_merge::{DivideAdvanceOf, DivideAdvanced, DivideMerge};
+use packed_monomial::Monomial;
+use quotient_row::{Row, RowReader};
+use sdmp_laws::NoMemory;
+use std::alloc::Global;
+use std::thread::Threads;
+use term_ring::Ring;
+use turnstile::Gate;
+
+// no row has more places, unless the first has
+const MOST_PLACES: u32 = 1 << 16;
+
+/// A merge that is over, the receipt of its last advance, and the number of rounds.
+#[derive(Drop)]
+pub(crate) struct Finished<R: CoeffRing, M: Monomial> {
+    pub(crate) merge: DivideMerge<R, M>,
+    pub(crate) last: DivideAdvanced<R, M>,
+    pub(crate) rounds: u64,
+}
+
+// how a round goes on
+enum Next {
+    Over,
+    Row,
+    Round,
+}
+
+fn next_after<R: CoeffRing, M: Monomial>(last: &DivideAdvanced<R, M>) -> Next {
+    match last.answer() {
+        DivideAdvanceOf::Finished => Next::Over,
+        DivideAdvanceOf::NoQuotient { .. } => Next::Over,
+        DivideAdvanceOf::PassedBound { .. } => Next::Over,
+        DivideAdvanceOf::PassedTerms { .. } => Next::Over,
+        DivideAdvanceOf::Blocked(_) => Next::Round,
+        DivideAdvanceOf::RowFull => Next::Row,
+        DivideAdvanceOf::OutFull => Next::Round,
+    }
+}
+
+// twice the places of a row that was full, up to the most
+fn more_places(places: u32) -> u32 {
+    places.saturating_mul(2).min(MOST_PLACES).max(places)
+}
+
+// room for all terms of the quotient and so many more, of which the worker knows some
+fn make_room<R: CoeffRing, M: Monomial>(
+    workers: &mut [Worker<'_, R, M>],
+    found: usize,
+    places: u32,
+) -> Result<(), NoMemory> {
+    for worker in 0..workers.len() {
+        let part = &mut workers[worker].worker;
+        let missing = found.saturating_sub(part.known() as usize);
+        part.reserve(missing + places as usize)?;
+    }
+    Ok(())
+}
+
+// each worker goes on with a reader of the new row
+fn catch_up_all<R: CoeffRing, M: Monomial>(
+    workers: &mut [Worker<'_, R, M>],
+    q: &[Term<R, M>],
+    front: Option<M>,
+    readers: Vec<RowReader<R, M>>,
+) {
+    let mut readers = readers;
+    for worker in 0..workers.len() {
+        let Some(reader) = readers.pop() else {
+            unreachable!()
+        };
+        workers[worker].worker.catch_up(q, front, reader);
+    }
+}
+
+// a new row of so many places, with which the merge and all workers go on
+fn change_row<R: CoeffRing, M: Monomial>(
+    alloc: Global,
+    job: &Job<'_, R, M>,
+    merge: &mut DivideMerge<R, M>,
+    workers: &mut [Worker<'_, R, M>],
+    places: u32,
+) -> Result<Row<R, M>, NoMemory> {
+    let found = merge.quotient().len();
+    let (row, writer, readers) = Row::new(
+        alloc,
+        job.g.ring(),
+        job.f,
+        job.g,
+        job.mode,
+        found as u32,
+        places,
+        workers.len() as u32,
+    )?;
+    make_room(workers, found, places)?;
+    merge.change_row(writer);
+    catch_up_all(workers, merge.quotient(), merge.front(), readers);
+    Ok(row)
+}
+
+/// Rounds until the merge is over, each of which begins with room for at least `room` terms.
+pub(crate) fn finish<T: Threads + Sync, R: CoeffRing, M: Monomial, G: Gate>(
+    threads: &T,
+    alloc: Global,
+    job: &Job<'_, R, M>,
+    merge: DivideMerge<R, M>,
+    row: Row<R, M>,
+    rings: &[Ring<R, M>],
+    workers: &mut [Worker<'_, R, M>],
+    places: u32,
+    room: usize,
+    gate: &G,
+) -> Result<Finished<R, M>, NoMemory> {
+    merge.whole();
+    let mut merge = merge;
+    let mut row = row;
+    let mut places = places;
+    let mut rounds = 0u64;
+    loop {
+        merge.reserve(room)?;
+        let (next, last) = round(threads, alloc, merge, rings, &row, workers, gate)?;
+        merge = next;
+        rounds += 1;
+        match next_after(&last) {
+            Next::Over => {
+                return Ok(Finished {
+                    merge,
+                    last,
+                    rounds,
+                });
+            }
+            Next::Row => {
+                places = more_places(places);
+                row = change_row(alloc, job, &mut merge, workers, places)?;
+            }
+            Next::Round => {}
+        }
+    }
+}
