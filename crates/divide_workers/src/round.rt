@@ -150,11 +150,13 @@ pub(crate) fn round<T: Threads + Sync, R: CoeffRing, M: Monomial, G: Gate>(
     requires rings { merge.rings ≡ map ring_name rings.now }
     requires row { merge.row ≡ row_identity row.now }
     requires team { IsTeam merge (map (λ w. w.worker.sender) workers.old) }
-    ensures sound { IfOk result (λ r. IsSound M.LIM r.0) }
+    requires place { HasPlace merge }
     ensures rings { IfOk result (λ r. r.0.rings ≡ merge.rings) }
     ensures row { IfOk result (λ r. r.0.row ≡ merge.row) }
     ensures team { IfOk result (λ r. IsTeam r.0 (map (λ w. w.worker.sender) workers.new)) }
-    ensures round { IfOk result (λ r. IsRound M.vector R.value merge r.0 r.1) }
+    ensures round { IfOk result (λ r. IsRound merge r.0 (verdict_of M.vector R.value r.1.answer)) }
+    ensures terms { IfOk result (λ r. r.1.terms ≡ length r.0.run.state.q) }
+    ensures receipt { IfOk result (λ r. r.1.merge.value.run ≡ r.0.run) }
 {
     let mut merge = around(threads, alloc, merge, rings, row, workers, gate)?;
     merge.reserve(1)?;

@@ -116,7 +116,20 @@ pub(crate) fn finish<T: Threads + Sync, R: CoeffRing, M: Monomial, G: Gate>(
     places: u32,
     room: usize,
     gate: &G,
-) -> Result<Finished<R, M>, NoMemory> {
+) -> Result<Finished<R, M>, NoMemory>
+    requires moduli { job.now.f.now.modulus ≡ job.now.g.now.modulus }
+    requires division { merge.run.state.division ≡ division_of job.now.mode M.order M.VARS job.now.f.now job.now.g.now }
+    requires rings { merge.rings ≡ map ring_name rings.now }
+    requires row { merge.row ≡ row_identity row }
+    requires team { IsTeam merge (map (λ w. w.worker.sender) workers.old) }
+    requires places { (0 < places) × HasPlace merge }
+    requires begun { progress merge.run ≡ 0 }
+    ensures answer { IfOk result (λ e. e.merge.answer ≡ Some (verdict_of M.vector R.value e.last.answer)) }
+    ensures rings { IfOk result (λ e. e.merge.rings ≡ merge.rings) }
+    ensures rounds { IfOk result (λ e. e.merge.run.state.q ≡ quotient_list merge.run.state.division → e.rounds ≤ rounds_bound merge.run.state.division merge.run.state.workers) }
+    ensures terms { IfOk result (λ e. e.last.terms ≡ length e.merge.run.state.q) }
+    ensures receipt { IfOk result (λ e. e.last.merge.value.run ≡ e.merge.run) }
+{
     merge.whole();
     let mut merge = merge;
     let mut row = row;
@@ -126,7 +139,7 @@ pub(crate) fn finish<T: Threads + Sync, R: CoeffRing, M: Monomial, G: Gate>(
         merge.reserve(room)?;
         let (next, last) = round(threads, alloc, merge, rings, &row, workers, gate)?;
         merge = next;
-        rounds += 1;
+        rounds = rounds.saturating_add(1);
         match next_after(&last) {
             Next::Over => {
                 return Ok(Finished {
