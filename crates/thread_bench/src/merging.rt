@@ -3,7 +3,7 @@ ghost use Rattle.std.specs.Prelude.{◌≡◌};
 
 use bound_check::product_room;
 use canonical_terms::Poly;
-use coeff_ring::Integers;
+use coeff_ring::CoeffRing;
 use mul_workers::multiply;
 use packed_monomial::Monomial;
 use row_merge::product;
@@ -20,14 +20,15 @@ const RUNS: u32 = 5;
 const PLACES: u32 = 1024;
 
 /// Makes the product of `f` and `g` both ways in turn. It prints the number of its terms, and the least nanoseconds of each way.
-pub fn measure_merge<T: Threads + Sync + Clock + Print + Eprint, M: Monomial>(
+pub fn measure_merge<T: Threads + Sync + Clock + Print + Eprint, R: CoeffRing, M: Monomial>(
     rt: &T,
     alloc: Global,
-    f: &Poly<Integers, M>,
-    g: &Poly<Integers, M>,
+    f: &Poly<R, M>,
+    g: &Poly<R, M>,
 ) -> io::Result<()>
     requires moduli { f.now.modulus ≡ g.now.modulus }
 {
+    let (f, g) = by_length(f, g);
     let Ok(()) = product_room(f, g) else {
         return Err(ErrorKind::InvalidData.into());
     };
@@ -49,4 +50,19 @@ pub fn measure_merge<T: Threads + Sync + Clock + Print + Eprint, M: Monomial>(
     }
     println!(rt; "{terms} terms")?;
     eprintln!(rt; "merge {merge} ns, worker {worker} ns")
+}
+
+// that of fewer terms first, as the program has it
+fn by_length<'a, R: CoeffRing, M: Monomial>(
+    f: &'a Poly<R, M>,
+    g: &'a Poly<R, M>,
+) -> (&'a Poly<R, M>, &'a Poly<R, M>)
+    requires moduli { f.now.modulus ≡ g.now.modulus }
+    ensures moduli { result.0.now.modulus ≡ result.1.now.modulus }
+{
+    if f.terms().len() <= g.terms().len() {
+        (f, g)
+    } else {
+        (g, f)
+    }
 }
