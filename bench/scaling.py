@@ -1,17 +1,18 @@
 #!/usr/bin/env python3
-"""Measures products by several workers, beside FLINT's heap method and beside other programs.
+"""Measures products and divisions by several workers, beside FLINT's heap method and beside other programs.
 
     scaling.py [--program [NAME=]PATH].. [--runs N] [--only PART,..]
                [--size small|medium|large] [--load N] [--limit S] [--plot]
 
-The capacity of the machine for W workers is what W copies of a product by one
+The capacity of the machine for W workers is what W copies of a session by one
 worker do side by side, over what one copy does alone: W times the time of one,
-over the time of all. A product by W workers reaches a share of it: the time of
-the W copies side by side, over W times the time of the one product.
+over the time of all. A session by W workers reaches a share of it: the time of
+the W copies side by side, over W times the time of the one session.
 
     products  four products by 1, 2 and 4 workers at 64, 1024 and 65536 places,
               the capacity of the machine from the same minutes, and FLINT by
               1, 2 and 4 threads
+    divisions the same of divisions; FLINT has no threads for remainders
     peers     all products of workloads.py by 4 workers beside FLINT by 4 threads
     tiny      a session of many tiny products, with the program's own words and
               by 1, 4 and 64 workers
@@ -36,7 +37,7 @@ import drawing
 import program
 from loops import BusyLoops
 from turns import Least, measure
-from workloads import FOUR_PRODUCTS, write_folder
+from workloads import DIVISIONS, FOUR_PRODUCTS, write_folder
 
 WORKERS = 2, 4
 PLACES = 64, 1024, 65536
@@ -66,6 +67,7 @@ class Bench:
         self.peer = program.flint_peer(folder)
         self.rows = write_folder(folder, size)
         self.four = [self.rows[name] for name in FOUR_PRODUCTS[size]]
+        self.divisions = [self.rows[name] for name in DIVISIONS[size]]
         self.loaded = [self.rows[name] for name in LOADED[size]]
 
     def session(self, row):
@@ -94,7 +96,7 @@ def seconds(least):
 
 
 def plans(bench):
-    """What is measured of one of the four products: each program alone, side by side, by workers and places; and FLINT."""
+    """What is measured of one session: each program alone, side by side, by workers and places; and FLINT."""
     least = {}
     for name, path in bench.programs.items():
         least[name, 1] = Least(sdmp(path, 1))
@@ -113,7 +115,7 @@ def capacity(least, name, workers):
 
 
 def worker_rows(bench, row, least):
-    """The rows of one product by several workers: seconds, speed-up and share of the capacity at each number of places."""
+    """The rows of one session by several workers: seconds, speed-up and share of the capacity at each number of places."""
     for name in bench.programs:
         alone = least[name, 1].answer()
         for workers in WORKERS:
@@ -135,15 +137,17 @@ def flint_row(row, least):
 
 def capacity_rows(bench, row, least):
     for name in bench.programs:
-        line = [row['name'], name, '%.3f' % (row['products'] / 1e6), seconds(least[name, 1])]
+        products = '%.3f' % (row['products'] / 1e6) if row['products'] else '-'
+        line = [row['name'], name, products, seconds(least[name, 1])]
         for workers in WORKERS:
             line += [seconds(least[name, 'copies', workers]), '%.2f' % capacity(least, name, workers)]
         yield line
 
 
-def measure_products(bench, plot):
+def measure_scaling(bench, sessions, what, plot):
+    """Measures these sessions, which are products or divisions, and draws them where there is a file to plot into."""
     capacities, by_workers, by_flint, panels = [], [], [], []
-    for row in bench.four:
+    for row in sessions:
         least = plans(bench)
         bench.turns(row, least)
         capacities += capacity_rows(bench, row, least)
@@ -151,7 +155,7 @@ def measure_products(bench, plot):
         if bench.peer:
             by_flint.append(flint_row(row, least))
         panels.append((row['name'], speed_ups(bench, least)))
-    heads = ['product', 'program', 'Mproducts', 'one alone s'], ['product', 'program', 'workers'], ['product', 'FLINT heap by 1 s']
+    heads = [what, 'program', 'Mproducts', 'one alone s'], [what, 'program', 'workers'], [what, 'FLINT heap by 1 s']
     for workers in WORKERS:
         heads[0].extend(['%d side by side s' % workers, 'capacity'])
         heads[2].extend(['by %d s' % workers, 'speed-up'])
@@ -161,11 +165,11 @@ def measure_products(bench, plot):
         if rows:
             table(head, rows)
     if plot:
-        drawing.draw(os.path.join(program.HERE, '..', 'docs', 'scaling.svg'), (1,) + WORKERS, panels)
+        drawing.draw(plot, (1,) + WORKERS, panels)
 
 
 def speed_ups(bench, least):
-    """The lines of one product's panel: a name, a style, and the speed-up by 1 worker and by several."""
+    """The lines of one session's panel: a name, a style, and the speed-up by 1 worker and by several."""
     for name in bench.programs:
         alone = least[name, 1].answer()
         yield name, 'whole', [1] + [alone / least[name, workers, OWN_PLACES].answer() for workers in WORKERS]
@@ -248,7 +252,7 @@ def main():
     parser = argparse.ArgumentParser(usage=__doc__)
     parser.add_argument('--program', action='append', default=[])
     parser.add_argument('--runs', type=int, default=5)
-    parser.add_argument('--only', default='products,peers,tiny,load')
+    parser.add_argument('--only', default='products,divisions,peers,tiny,load')
     parser.add_argument('--size', choices=list(FOUR_PRODUCTS), default='medium')
     parser.add_argument('--load', type=int, default=0)
     parser.add_argument('--limit', type=float, default=60)
@@ -260,7 +264,9 @@ def main():
     with tempfile.TemporaryDirectory() as folder:
         bench = Bench(folder, words.size, named(words.program), words.runs, words.limit)
         if 'products' in parts:
-            measure_products(bench, words.plot)
+            measure_scaling(bench, bench.four, 'product', os.path.join(program.HERE, '..', 'docs', 'scaling.svg') if words.plot else None)
+        if 'divisions' in parts:
+            measure_scaling(bench, bench.divisions, 'division', None)
         if 'peers' in parts:
             measure_peers(bench)
         if 'tiny' in parts:

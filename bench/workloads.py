@@ -116,9 +116,9 @@ class Folder:
     def mul(self, name, names, f, g, modulus=0, text=canonical):
         self.add(name, names, modulus, [('a', text(f, names)), ('b', text(g, names))], 'mul a b', len(f) * len(g))
 
-    def div(self, name, names, f, g, modulus=0, plus=''):
-        """The product of f and g divided by f."""
-        product = canonical(times(f, g, modulus), names) + plus
+    def div(self, name, names, f, g, modulus=0, plus='', product=None):
+        """The product of f and g, computed here where it isn't given, divided by f."""
+        product = canonical(product or times(f, g, modulus), names) + plus
         self.add(name, names, modulus, [('c', product), ('a', canonical(f, names))], 'div c a', len(f) * len(g))
 
 
@@ -128,10 +128,13 @@ def dense(folder, k):
     g[0, 0, 0, 0] += 1
     folder.mul('dense%02d' % k, FOUR, f, g)
     folder.mul('dense_p%02d' % k, FOUR, f, g, MODULUS)
-    if k <= 12:
-        folder.div('dense_div%02d' % k, FOUR, f, g)
-        folder.div('dense_div_p%02d' % k, FOUR, f, g, MODULUS)
-        folder.div('dense_none%02d' % k, FOUR, f, g, 0, '+1')
+    product = power(2 * k, [(1, unit(i, 4)) for i in range(4)], 4)
+    for m, c in f.items():
+        product[m] += c
+    reduced = {m: c % MODULUS for m, c in product.items() if c % MODULUS}
+    folder.div('dense_div%02d' % k, FOUR, f, g, product=product)
+    folder.div('dense_div_p%02d' % k, FOUR, f, g, MODULUS, product=reduced)
+    folder.div('dense_none%02d' % k, FOUR, f, g, 0, '+1', product)
 
 
 def powers(folder, k):
@@ -166,6 +169,14 @@ def lopsided(folder, lengths):
 def sparse_division(folder, n):
     draw = Draw(14)
     folder.div('sparse_div%05d' % n, FIVE, random_terms(draw, n, 5, 12, 1000), random_terms(draw, n, 5, 12, 1000))
+
+
+def long_division(folder, k):
+    """A dense quotient of degree k, whose divisor has 15 terms."""
+    draw = Draw(19)
+    f = power(2, [(1, unit(i, 4)) for i in range(4)], 4)
+    g = {m: draw(1000) + 1 for m in power(k, [(1, unit(i, 4)) for i in range(4)], 4)}
+    folder.div('long_div%02d' % k, FOUR, f, g)
 
 
 def remainder(folder, n):
@@ -206,6 +217,7 @@ FAMILIES = [
     (scattered, [200], [1000], [3000]),
     (lopsided, [(10, 5000)], [(10, 100000)], [(30, 300000)]),
     (sparse_division, [100], [500], [1500]),
+    (long_division, [10], [37], [45]),
     (remainder, [2000], [20000], [200000]),
     (remainder_of_residues, [(300, 20, 24)], [(2000, 60, 40)], [(5000, 200, 48)]),
     (shown, [10000], [100000], [1000000]),
@@ -218,6 +230,13 @@ FOUR_PRODUCTS = {
     'small': ['dense08', 'powers05', 'sparse00300', 'scattered00200'],
     'medium': ['dense16', 'powers10', 'sparse03000', 'scattered01000'],
     'large': ['dense20', 'powers12', 'sparse10000', 'scattered03000'],
+}
+
+# and divisions: dense, sparse, with a long quotient, and with remainders by some 25 terms and by four
+DIVISIONS = {
+    'small': ['dense_div08', 'sparse_div00100', 'long_div10', 'rem_p00300', 'rem002000'],
+    'medium': ['dense_div12', 'dense_div16', 'sparse_div00500', 'long_div37', 'rem_p02000', 'rem020000'],
+    'large': ['dense_div20', 'sparse_div01500', 'long_div45', 'rem_p05000', 'rem200000'],
 }
 
 

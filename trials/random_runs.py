@@ -3,11 +3,12 @@
 
     random_runs.py [--sdmp PROGRAM] [--runs N] [--seed S] [--beside N]
 
-Two sessions: (1+x+y+z+t)^12 times itself plus 1, and that product divided by
-the power again. Their answers are computed here by plain dictionaries. The
-first is run N times (1000), each time with a random number of workers and of
-places, the logarithm of which is drawn evenly, so many runs beside each other
-(8) that the processors are short; the second a tenth as often. Each run has to write the same bytes.
+Three sessions: (1+x+y+z+t)^12 times itself plus 1; that product divided by the
+power again; and the product plus 1 divided by the power with remainder. Their
+answers are computed here by plain dictionaries. Each is run N times (1000),
+each time with a random number of workers and of places, the logarithm of which
+is drawn evenly, so many runs beside each other (8) that the processors are
+short. Each run has to write the same bytes.
 
 Exit status: 0, or 1 where a run wrote something else.
 """
@@ -27,11 +28,15 @@ def sessions():
     b = dict(a)
     b[(0, 0, 0, 0)] += 1
     first, second = workloads.canonical(a, FOUR), workloads.canonical(b, FOUR)
-    product = workloads.canonical(workloads.times(a, b, 0), FOUR)
+    both = workloads.times(a, b, 0)
+    product = workloads.canonical(both, FOUR)
+    both[(0, 0, 0, 0)] += 1
+    more = workloads.canonical(both, FOUR)
     head = 'vars x y z t\nring Z\na = %s\n' % first
     return [
         ((head + 'b = %s\nmul a b\n' % second).encode(), (product + '\n').encode()),
         ((head + 'c = %s\ndiv c a\n' % product).encode(), (second + '\n').encode()),
+        ((head + 'c = %s\nrem c a\n' % more).encode(), (second + '\n1\n').encode()),
     ]
 
 
@@ -51,8 +56,8 @@ def main():
     draw = random.Random(words.seed)
     wrong = made = 0
     with concurrent.futures.ThreadPoolExecutor(words.beside) as pool:
-        for (session, answer), runs in zip(sessions(), (words.runs, words.runs // 10)):
-            settings = [(draw.randint(1, 64), int(2 ** draw.uniform(1, 16))) for _ in range(runs)]
+        for session, answer in sessions():
+            settings = [(draw.randint(1, 64), int(2 ** draw.uniform(1, 16))) for _ in range(words.runs)]
             asked = [(pool.submit(is_right, words.sdmp, session, answer, *s), s) for s in settings]
             for result, (workers, places) in asked:
                 made += 1

@@ -1,6 +1,6 @@
 //! Measures what threads cost: how many notes a second pass through a ring, what one worker takes over a merge of its rows, and what a division by workers takes over one on the calling thread.
 //!
-//! Its words are `ring PLACES`, `merge`, or `exact WORKERS PLACES` and `remainder WORKERS PLACES` for divisions. Standard input is a session in four variables, or for all but `ring` in five, over the integers, or for all but `ring` modulo a number; its first two lines after the header define the operands. Counts go to standard output, times to standard error.
+//! Its words are `ring PLACES`, `merge`, or `exact WORKERS PLACES` and `remainder WORKERS PLACES` for divisions. Standard input is a session in four variables, or for all but `ring` in one or five, over the integers, or for all but `ring` modulo a number; its first two lines after the header define the operands. Counts go to standard output, times to standard error.
 #![tactic(auto)]
 
 ghost use Rattle.std.specs.Prelude.{◌≡◌, length};
@@ -128,6 +128,7 @@ fn by_variables<T: Threads + Sync + Clock + Print + Eprint, R: CoeffRing>(
     body: &[u8],
 ) -> io::Result<()> {
     match names.len() {
+        1 => measured::<_, R, Packed<1>>(rt, alloc, ring, ways, names, body),
         4 => measured::<_, R, Packed<4>>(rt, alloc, ring, ways, names, body),
         5 => measured::<_, R, Packed<5>>(rt, alloc, ring, ways, names, body),
         _ => Err(ErrorKind::InvalidData.into()),
