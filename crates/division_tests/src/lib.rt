@@ -4,16 +4,6 @@
 #[cfg(test)]
 mod answers;
 #[cfg(test)]
-mod divisions;
-#[cfg(test)]
-mod gates;
-#[cfg(test)]
-mod merges;
-#[cfg(test)]
 mod polys;
 #[cfg(test)]
 mod powers;
-#[cfg(test)]
-mod stalls;
-#[cfg(test)]
-mod workers;
