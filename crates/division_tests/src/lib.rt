@@ -1,0 +1,9 @@
+//! Tests of the division by workers and of its shared merge, through their public calls. They stand in a crate of their own, so that each of those crates is proved once.
+#![tactic(auto)]
+
+#[cfg(test)]
+mod answers;
+#[cfg(test)]
+mod polys;
+#[cfg(test)]
+mod powers;

@@ -1,0 +1,55 @@
+//! Polynomials in two variables.
+ghost use Rattle.std.specs.Prelude.{◌≡◌, IfOk};
+
+use canonical_terms::{Poly, TermOf};
+use coeff_ring::{CoeffRing, Integers};
+use packed_monomial::{Monomial, Packed};
+use std::alloc::Global;
+use std::test::Fail;
+
+pub type Plane = Packed<2>;
+
+/// The exponents of x and of y, and the coefficient.
+pub type Power = (u32, u32, i128);
+
+/// The sum of these terms.
+pub fn poly<R: CoeffRing>(alloc: Global, ring: R, terms: &[Power]) -> Result<Poly<R, Plane>, Fail>
+    ensures { IfOk result (λ f. f.modulus ≡ R.characteristic ring) }
+{
+    let mut list = Vec::new(alloc);
+    for i in 0..terms.len() {
+        let (x, y, number) = terms[i];
+        let mono = Plane::pack(&[x, y])?;
+        let size = ring
+            .from_numeral(number.unsigned_abs())
+            .ok_or("a coefficient")?;
+        let coef = if number < 0 { ring.neg(size) } else { size };
+        list.push(TermOf { mono, coef })?;
+    }
+    Ok(Poly::from_terms(alloc, ring, list)?)
+}
+
+/// Whether both have the same terms.
+pub fn is_same<R: CoeffRing, M: Monomial>(left: &Poly<R, M>, right: &Poly<R, M>) -> bool {
+    let terms = left.terms();
+    let others = right.terms();
+    if terms.len() != others.len() {
+        return false;
+    }
+    for i in 0..terms.len() {
+        if terms[i].mono != others[i].mono {
+            return false;
+        }
+        let words = left.ring().to_words(terms[i].coef);
+        if words != right.ring().to_words(others[i].coef) {
+            return false;
+        }
+    }
+    true
+}
+
+/// The exponents and the coefficient of the term at this place.
+pub fn shown(poly: &Poly<Integers, Plane>, place: usize) -> Option<Power> {
+    let term = poly.terms().get(place)?;
+    Some((term.mono.exponent(0), term.mono.exponent(1), term.coef))
+}
