@@ -270,11 +270,12 @@ module _ {X M E : Type 0} (vector : M → List ℕ) (value : E → ℤ) (belongs
         }
 
     pub may_take : (x : RowNoteOf M E) → Found vector value belongs its_row reader reader' x → CanTakeIn vector value belongs ord lim rows place lead x
-    may_take (note.Term t) f =
-        (record { reached = reached; next = may_learn_now t f },
-         told_low lim V (term_of vector value t) s.working (carry (note.Term t) f),
-         (let k = lead_degree lim V.state.division.g s.working.fit.divisor.degrees in let e = ap degree s.lead_is in omega (arith, k, e)),
-         (let k = few_known lim V s.working in let e = reached in omega (arith, k, e)))
+    may_take (note.Term t) f = (
+      record { reached = reached; next = may_learn_now t f },
+      told_low lim V (term_of vector value t) s.working (carry (note.Term t) f),
+      (let k = lead_degree lim V.state.division.g s.working.fit.divisor.degrees in let e = ap degree s.lead_is in omega (arith, k, e)),
+      (let k = few_known lim V s.working in let e = reached in omega (arith, k, e)),
+    )
     may_take (note.Front m) f = tt
 
     module _ (rows' : QuotientState) (place' : ℕ) (news lower : Front M) where
