@@ -1,5 +1,5 @@
 -- A look at the row, as a dividing worker makes it.
-use Rattle.std.proofs.Common.{◌≡◌, ◌⊎◌, inl, inr, ℕ, ◌+◌, ◌^◌, ◌<◌, ◌≤◌, max, true, false, ℤ, List, [], ◌∷◌, ◌++◌, length, get_or, Option, Some, refl, sym, ap, ◌∙◌, subst, arith, All, IsPermutation, append-nil}
+use Rattle.std.proofs.Common.{◌≡◌, inr, ℕ, ◌+◌, ◌^◌, ◌<◌, ◌≤◌, max, true, false, ℤ, List, [], ◌∷◌, ◌++◌, length, get_or, Option, Some, refl, sym, ap, ◌∙◌, subst, arith, All, IsPermutation, append-nil}
 use Rattle.std.proofs.lemmas.List.Elements.{All-head}
 use Rattle.std.proofs.lemmas.List.{map-append, length-map, length_push, get_or-map}
 use mathlib.Core.List.{IsPrefix}
@@ -131,6 +131,10 @@ next_at {M = M} {E = E} vector value s q k t knows begun e l is =
     let f : TermOf M E → Term = term_of vector value in
     let at : get_or (sum_of vector value q) k (f t) ≡ f t = get_or-map f q k t (f t) l ∙ ap f (sym is) in
     let m = length-map q f in subst (IsNextTerm s) at (next_found s (sum_of vector value q) (f t) k knows begun e (omega (arith, l, m)))
+
+-- the terms that were found stay that
+pub begun_still : (a b : WorkerView) (q : List Term) → LearnsMore a b → IsBegun a.state.division q → IsBegun b.state.division q
+begun_still a b q m h = subst (λ (d : Division). IsBegun d q) (sym (ap (λ (v : WorkerView). v.state.division) m.same)) h
 
 -- what it knows then begins the quotient still
 pub knows_more : (a b : WorkerView) (t : Term) → LearnsMore a b → b.state.known ≡ a.state.known ++ t ∷ [] → IsNextTerm a.state t → IsPrefix b.state.known (quotient_list b.state.division)
@@ -285,7 +289,7 @@ module _ {X M E : Type 0} (vector : M → List ℕ) (value : E → ℤ) (belongs
       more_notes : (x : RowNoteOf M E) → Found vector value belongs its_row reader reader' x → notes_of vector value (known reader') ≡ V.notes ++ note_of vector value x ∷ []
       more_notes x f = ap (notes_of vector value) f.notes ∙ map-append (note_of vector value) (known reader) (x ∷ [])
 
-      -- the news of the note, as the worker's division says them
+      -- it heard a term and learned it, or knew it; or it heard a front
       heard_learned : (t : TermOf M E) → Found vector value belongs its_row reader reader' (note.Term t) → Learns vector value rows rows' t → place ≡ length rows.learned → place' ≡ place + 1
           → Hears V.state.division V.front (front_of_term V.state.division (term_of vector value t)) (front_of vector lower) → Heard lim place' V T
       heard_learned t f l e next h =
@@ -294,9 +298,9 @@ module _ {X M E : Type 0} (vector : M → List ℕ) (value : E → ℤ) (belongs
           (heard_next lim V s.working own_rows (count_seen reader') (count_loads reader') place' f.count (omega (arith, loads)) (front_of vector lower) (term_of vector value t) rows'.unread rows'.spare (carry (note.Term t) f) (sym s.place_is ∙ e)
           (subst (λ (G : List Term). IsPermutation (rows.unread ++ row (term_of vector value t) G) rows'.unread) s.rows_are l.unread) h l.spare (omega (arith, at, next)))
 
-      heard_again : (t : TermOf M E) → Found vector value belongs its_row reader reader' (note.Term t) → rows' ≡ rows → place < length rows.learned → place' ≡ place + 1
+      heard_same : (t : TermOf M E) → Found vector value belongs its_row reader reader' (note.Term t) → rows' ≡ rows → place < length rows.learned → place' ≡ place + 1
           → Hears V.state.division V.front (front_of_term V.state.division (term_of vector value t)) (front_of vector lower) → Heard lim place' V T
-      heard_again t f same l next h =
+      heard_same t f same l next h =
           let at = s.place_is in let loads = f.loads in
           subst (Heard lim place' V) (seen_so reader' f.of rows' place' (Some lower) rows.learned rows.unread (V.notes ++ RowTerm (term_of vector value t) ∷ []) rows.spare (ap (λ (q : QuotientState). q.learned) same) (ap (λ (q : QuotientState). q.unread) same) (ap (λ (q : QuotientState). q.spare) same) (more_notes (note.Term t) f) f.told)
           (heard_known lim V s.working own_rows (count_seen reader') (count_loads reader') place' f.count (omega (arith, loads)) (front_of vector lower) (term_of vector value t) (carry (note.Term t) f) (omega (arith, at, l)) h (omega (arith, at, next)))
@@ -321,7 +325,7 @@ module _ {X M E : Type 0} (vector : M → List ℕ) (value : E → ℤ) (belongs
           pick : Three (place < length rows.learned) (place ≡ length rows.learned) (length rows.learned < place) → Took
           pick (is_less l) =
               let e = once.known l in record {
-                heard = heard_again t f e l next h;
+                heard = heard_same t f e l next h;
                 modulus = ap (λ (q : QuotientState). q.modulus) e;
                 divisor = ap (λ (q : QuotientState). q.divisor) e;
                 rows_same = ap (λ (q : QuotientState). q.rows) e;

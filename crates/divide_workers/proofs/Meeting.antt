@@ -1,12 +1,11 @@
 -- How the ends of a dividing worker meet those of the merge, and how it goes on with another row.
-use Rattle.std.proofs.Common.{◌≡◌, ℕ, ◌+◌, ◌≤◌, max, false, ℤ, List, [], ◌∷◌, ◌++◌, length, slice_index_or, Option, Some, None, refl, sym, ap, ◌∙◌, subst, arith, append-nil, append_assoc}
+use Rattle.std.proofs.Common.{◌≡◌, ℕ, ◌+◌, ◌≤◌, max, false, ℤ, List, [], ◌++◌, length, slice_index_or, Option, Some, None, refl, sym, ap, ◌∙◌, subst, arith, append-nil, append_assoc}
 use Rattle.std.proofs.lemmas.List.{length-map}
 use mathlib.Core.List.{IsPrefix}
 use Rattle.sdmp_laws.specs.Order.{Order}
 use Rattle.sdmp_laws.specs.Poly.{Term}
 use Rattle.sdmp_laws.specs.Division.{Division}
 use Rattle.sdmp_laws.specs.LongDivision.{quotient_list}
-use Rattle.whole_laws.specs.Notes.{Script}
 use Rattle.divide_wholes.specs.Wholes.{AllUnderFront}
 use Rattle.divide_wholes.specs.Row.{RowNote, row_terms}
 use Rattle.divide_wholes.specs.Workers.{WorkerState, worker_rows}
@@ -15,7 +14,6 @@ use Rattle.canonical_terms.specs.declared.term.TermOf.{TermOf}
 use Rattle.term_ring.specs.Ends.{sent, head_seen, full_looks}
 use Rattle.term_ring.specs.Names.{RingName, writer_name, IsWriting}
 use Rattle.term_ring.specs.Spelling.{notes_of}
-use Rattle.term_ring.specs.declared.note.NoteOf.{NoteOf}
 use Rattle.term_ring.specs.declared.ring.Writer.{Writer}
 use Rattle.quotient_row.specs.Names.{RowName}
 use Rattle.quotient_row.specs.Ends.{IsReaderOf, known, count_seen, count_loads, told_published}
@@ -24,14 +22,14 @@ use Rattle.quotient_row.specs.declared.note.RowNoteOf.{RowNoteOf}
 use Rattle.quotient_row.specs.declared.row.Row.{Row}
 use Rattle.quotient_row.specs.declared.row.RowReader.{RowReader}
 use Rattle.dividing_rounds.specs.Stalls.{IsLowered}
-use Rattle.divide_merge.specs.Names.{RowIdentity, IsLooking, script_division, row_identity, reader_row}
+use Rattle.divide_merge.specs.Names.{IsLooking, script_division, row_identity, reader_row}
 use Rattle.divide_merge.specs.Merges.{DivideView, taken_of}
-use Rattle.divide_workers.specs.Fronts.{PlainFront, front_mono, UnderBy, FrontFalls}
+use Rattle.divide_workers.specs.Fronts.{front_mono, UnderBy}
 use Rattle.divide_workers.specs.Paying.{HasRows}
 use Rattle.divide_workers.specs.Views.{WorkerView, script_workers, sender_of}
 use Rattle.divide_workers.specs.Working.{IsWorking}
 use Rattle.divide_workers.specs.Inside.{view_of, IsSender}
-use Rattle.divide_workers.specs.Steps.{CatchesUp, LearnsMore, IsBegun}
+use Rattle.divide_workers.specs.Steps.{CatchesUp, LearnsMore, IsFrontOf}
 use Rattle.divide_workers.specs.Rounds.{Meets}
 use Rattle.divide_workers.specs.declared.front.Front.{Front}
 use Rattle.divide_workers.specs.declared.mark.Mark.{Mark}
@@ -118,12 +116,17 @@ unfolding UnderBy AllUnderFront
 under_later d None A B h = tt
 under_later d (Some m) A B h = ahead_back d (Some (record { mono = m; is_strict = false })) A B h
 
--- the front of the merge holds after all that the worker knows
-pub under_still : (d : Division) (q known : List Term) (front : Option (List ℕ)) → IsPrefix q (quotient_list d) → length q ≤ length known → ((later : List Term) → q ++ later ≡ quotient_list d → AllUnderFront d front later)
+under_known : (d : Division) (q known : List Term) (front : Option (List ℕ)) → IsPrefix q (quotient_list d) → length q ≤ length known → ((later : List Term) → q ++ later ≡ quotient_list d → AllUnderFront d front later)
     → (later : List Term) → known ++ later ≡ quotient_list d → AllUnderFront d front later
-under_still d q known front i l h later e =
+under_known d q known front i l h later e =
     let r = begins_longer q known (quotient_list d) i (later, e) l in
     under_later d front r.0 later (h (r.0 ++ later) (sym (append_assoc q r.0 later) ∙ ap (λ (L : List Term). L ++ later) r.1 ∙ e))
+
+-- the front of the merge holds after all that it knows, where it has learned what was found
+pub under_still : (a b : WorkerView) (q : List Term) (front : Option (List ℕ)) → LearnsMore a b → IsPrefix q (quotient_list a.state.division) → length q ≤ length b.state.known
+    → ((later : List Term) → q ++ later ≡ quotient_list a.state.division → AllUnderFront a.state.division front later) → IsFrontOf b.state front
+under_still a b q front m i l h =
+    subst (λ (d : Division). (later : List Term) → b.state.known ++ later ≡ quotient_list d → AllUnderFront d front later) (sym (ap (λ (v : WorkerView). v.state.division) m.same)) (under_known a.state.division q b.state.known front i l h)
 
 module _ {X M E : Type 0} (vector : M → List ℕ) (value : E → ℤ) (belongs : ℕ → E → Type 0) (ord : Order) (n lim p worker : ℕ) (vars : (m : M) → length (vector m) ≡ n) (rows : QuotientState) (writer : Writer X M E) (reader : RowReader X M E) (lead : M) (place : ℕ) (front : Option (Front M)) (kept : Option (TermOf M E)) (marked : Mark M)
     (s : IsSender vector value belongs ord n lim p worker rows writer reader lead place front kept marked) (u : WorkerView) (view : view_of vector value worker rows writer reader front kept ≡ u)

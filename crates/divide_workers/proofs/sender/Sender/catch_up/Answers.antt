@@ -1,22 +1,15 @@
-use Rattle.std.proofs.Common.{◌≡◌, ◌++◌, List, length, true≢false, refl, sym, ap, subst, ◌∙◌, arith}
+use Rattle.std.proofs.Common.{length, true≢false, refl, sym, subst, ◌∙◌, arith}
 use Rattle.std.proofs.lemmas.List.{length-map}
-use Rattle.sdmp_laws.specs.Poly.{Term}
-use Rattle.sdmp_laws.specs.Division.{Division}
-use Rattle.sdmp_laws.specs.LongDivision.{quotient_list}
-use Rattle.divide_wholes.specs.Wholes.{AllUnderFront}
 use Rattle.canonical_terms.specs.View.{term_of, sum_of}
 use Rattle.divide_workers.specs.Fronts.{vector_of}
-use Rattle.divide_workers.specs.Views.{WorkerView}
 use Rattle.divide_workers.proofs.Meeting.{CaughtUp, caught_idle, caught, under_still, caught_up_is, catches_up}
 use Rattle.divide_workers.proofs.sender.Sender.catch_up.Goals.{then-has_rows, else-has_rows}
 use Rattle.divide_workers.proofs.sender.Sender.catch_up.Goals as goal
 
 pub take_front-requires-clause-front : goal.take_front-requires-clause-front
 take_front-requires-clause-front g c κs within =
-    let v = c.learn_rest.new.self in let q = sum_of g.M.Monomial.vector g.R.CoeffRing.value c.args.q.now in
     let e = c.learn_rest.ensures.known in let l = length-map c.args.q.now (term_of g.M.Monomial.vector g.R.CoeffRing.value) in
-    subst (λ (d : Division). (later : List Term) → v.state.known ++ later ≡ quotient_list d → AllUnderFront d (vector_of g.M.Monomial.vector c.args.front) later) (sym (ap (λ (u : WorkerView). u.state.division) c.learn_rest.ensures.learns.same))
-    (under_still c.args.self.now.state.division q v.state.known (vector_of g.M.Monomial.vector c.args.front) c.requires.q.begins (omega (arith, e, l)) c.requires.front)
+    under_still c.args.self.now c.learn_rest.new.self (sum_of g.M.Monomial.vector g.R.CoeffRing.value c.args.q.now) (vector_of g.M.Monomial.vector c.args.front) c.learn_rest.ensures.learns c.requires.q.begins (omega (arith, e, l)) c.requires.front
 
 pub invariant_of-self : goal.invariant_of-self
 invariant_of-self g c =

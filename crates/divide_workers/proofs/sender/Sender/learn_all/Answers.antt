@@ -1,5 +1,4 @@
-use Rattle.std.proofs.Common.{refl, ap, ◌∙◌, arith}
-use Rattle.divide_workers.specs.Views.{WorkerView}
+use Rattle.std.proofs.Common.{refl, ◌∙◌}
 use Rattle.divide_workers.proofs.Working.{works_itself, works_again}
 use Rattle.divide_workers.proofs.Looking.{rows_stay}
 use Rattle.divide_workers.proofs.sender.Sender.learn_all.Goals as goal

@@ -2,13 +2,12 @@ use Rattle.std.proofs.Common.{◌≡◌, ◌+◌, List, length, sym, ap, subst, 
 use Rattle.std.proofs.lemmas.List.{length_push}
 use mathlib.Core.List.{IsPrefix}
 use Rattle.sdmp_laws.specs.Poly.{Term}
-use Rattle.sdmp_laws.specs.Division.{Division}
 use Rattle.sdmp_laws.specs.LongDivision.{quotient_list}
 use Rattle.canonical_terms.specs.View.{term_of, sum_of}
 use Rattle.divide_workers.specs.Views.{WorkerView}
-use Rattle.divide_workers.specs.Steps.{IsNextTerm, IsBegun}
+use Rattle.divide_workers.specs.Steps.{IsNextTerm}
 use Rattle.divide_workers.proofs.Fields.{learns_none, learns_again}
-use Rattle.divide_workers.proofs.Looking.{next_at, knows_more}
+use Rattle.divide_workers.proofs.Looking.{next_at, begun_still, knows_more}
 use Rattle.divide_workers.proofs.sender.Sender.learn_rest.Goals as goal
 
 pub loop-k-init : goal.loop-k-init
@@ -24,14 +23,14 @@ pub learn_next-requires-clause-next : goal.learn_next-requires-clause-next
 learn_next-requires-clause-next g c κs within =
     let i = c.loop-k.invariant in
     next_at g.M.Monomial.vector g.R.CoeffRing.value c.loop-k.self.state c.args.q.now c.loop-k.k c.index-q-k.result i.knows
-    (subst (λ (d : Division). IsBegun d (sum_of g.M.Monomial.vector g.R.CoeffRing.value c.args.q.now)) (sym (ap (λ (v : WorkerView). v.state.division) i.learns.same)) c.requires.q) i.count c.loop-k-test.true c.index-q-k.is
+    (begun_still c.args.self.now c.loop-k.self (sum_of g.M.Monomial.vector g.R.CoeffRing.value c.args.q.now) i.learns c.requires.q) i.count c.loop-k-test.true c.index-q-k.is
 
 pub loop-k-preserved : goal.loop-k-preserved
 loop-k-preserved g c =
     let i = c.loop-k.invariant in let t = term_of g.M.Monomial.vector g.R.CoeffRing.value c.index-q-k.result in
     let next : IsNextTerm c.loop-k.self.state t =
     next_at g.M.Monomial.vector g.R.CoeffRing.value c.loop-k.self.state c.args.q.now c.loop-k.k c.index-q-k.result i.knows
-    (subst (λ (d : Division). IsBegun d (sum_of g.M.Monomial.vector g.R.CoeffRing.value c.args.q.now)) (sym (ap (λ (v : WorkerView). v.state.division) i.learns.same)) c.requires.q) i.count c.loop-k-test.true c.index-q-k.is in
+    (begun_still c.args.self.now c.loop-k.self (sum_of g.M.Monomial.vector g.R.CoeffRing.value c.args.q.now) i.learns c.requires.q) i.count c.loop-k-test.true c.index-q-k.is in
     record {
       learns = learns_again c.args.self.now c.loop-k.self c.learn_next.new.self i.learns c.learn_next.ensures.learns;
       count = ap (λ (L : List Term). length L) c.learn_next.ensures.known ∙ length_push c.loop-k.self.state.known t ∙ ap (λ k. k + 1) i.count;

@@ -1,4 +1,4 @@
-use Rattle.std.proofs.Common.{◌≡◌, ◌<◌, slice_index_or, sym, ap, subst, ◌∙◌}
+use Rattle.std.proofs.Common.{◌<◌, slice_index_or, sym, ap, subst, ◌∙◌}
 use Rattle.divide_workers.specs.Inside.{view_of}
 use Rattle.divide_workers.specs.Views.{WorkerView}
 use Rattle.divide_workers.specs.Rounds.{Meets}
