@@ -50,7 +50,7 @@ row_known lim v w l p =
     let k = length_prefix v.state.known (quotient_list v.state.division) w.whole.knows in
     let e = known_length v.state.division v.row.name.start v.notes (omega (arith, l, k)) in omega (arith, e, l)
 
-one_more_term : (notes : List RowNote) (t : Term) → length (row_terms (notes ++ RowTerm t ∷ [])) ≡ length (row_terms notes) + 1
+pub one_more_term : (notes : List RowNote) (t : Term) → length (row_terms (notes ++ RowTerm t ∷ [])) ≡ length (row_terms notes) + 1
 unfolding row_terms
 one_more_term notes t = ap (λ (L : List Term). length L) (row_terms-append notes (RowTerm t ∷ [])) ∙ length-append (row_terms notes) (t ∷ [])
 
