@@ -97,7 +97,7 @@ class Polynomial:
     def __eq__(self, other):
         if not isinstance(other, Polynomial):
             return NotImplemented
-        return self.text == other.text and self.session.is_alike(other.session)
+        return self.text == other.text and self.session._is_alike(other.session)
 
     def __hash__(self):
         return hash(self.text)
@@ -152,9 +152,9 @@ class Session:
 
     def run(self, commands):
         """Answers commands by one run of the program: a list of tuples as ('show', a), ('mul', a, b), ('div', a, b) and ('rem', a, b). The answers are as those of `poly`, `mul`, `div` and `rem`. A polynomial that several commands use is written once."""
-        commands = [(word, *map(self.written, operands)) for word, *operands in commands]
-        lines, asked = self.lines(commands)
-        status, written = self.answer(lines)
+        commands = [(word, *map(self._written, operands)) for word, *operands in commands]
+        lines, asked = self._lines(commands)
+        status, written = self._answer(lines)
         told = None
         if status == 2:
             told = FAULT.fullmatch(written.pop())
@@ -162,22 +162,22 @@ class Session:
             commands = commands[:before]
         elif status != 0:
             raise Failure(status)
-        answers = self.read(commands, written)
+        answers = self._read(commands, written)
         if told:
             line = int(told[1])
             column = int(told[3]) if told[3] else None
             raise Fault(told[2], line, column, lines[line - 1] if line <= len(lines) else '', answers)
         return answers
 
-    def is_alike(self, other):
+    def _is_alike(self, other):
         """Has the same variables and the same ring."""
         return self.variables == other.variables and self.modulus == other.modulus
 
-    def lines(self, commands):
+    def _lines(self, commands):
         """The lines of a session with these commands, and the numbers of the commands' lines."""
         ring = 'Z' if self.modulus is None else 'mod %d' % self.modulus
         lines = ['vars ' + ' '.join(self.variables), 'ring ' + ring]
-        names, asked, fresh = {}, [], self.fresh_names()
+        names, asked, fresh = {}, [], self._fresh_names()
         for word, *operands in commands:
             if word not in COMMANDS or len(operands) != COMMANDS[word][0]:
                 raise ValueError('no command of %d operands: %s' % (len(operands), word))
@@ -189,7 +189,7 @@ class Session:
             asked.append(len(lines))
         return lines, asked
 
-    def fresh_names(self):
+    def _fresh_names(self):
         """Names for definitions, none of them a variable."""
         number = 0
         while True:
@@ -198,23 +198,23 @@ class Session:
             if name not in self.variables:
                 yield name
 
-    def answer(self, lines):
+    def _answer(self, lines):
         """The exit status of the program on these lines, and the lines that it writes."""
         session = ''.join(line + '\n' for line in lines).encode()
         done = subprocess.run(self.command, input=session, stdout=subprocess.PIPE)
         return done.returncode, done.stdout.decode().splitlines()
 
-    def read(self, commands, written):
+    def _read(self, commands, written):
         """The answers that the written lines give to these commands."""
         answers, rest = [], iter(written)
         for word, *operands in commands:
             found = [Polynomial(self, next(rest)) for _ in range(COMMANDS[word][1])]
-            if word == 'div' and found[0].text == 'none' and not self.is_times_none(operands):
+            if word == 'div' and found[0].text == 'none' and not self._is_times_none(operands):
                 found = [None]
             answers.append(found[0] if len(found) == 1 else tuple(found))
         return answers
 
-    def is_times_none(self, operands):
+    def _is_times_none(self, operands):
         """Whether the answer `none` to a division is a variable of that name, which the divisor then has to be multiplied by."""
         if 'none' not in self.variables:
             return False
@@ -223,7 +223,7 @@ class Session:
         raised = {e[:place] + (e[place] + 1,) + e[place + 1:]: c for e, c in divisor.terms.items()}
         return dividend.terms == raised
 
-    def written(self, value):
+    def _written(self, value):
         """The text of what `poly` takes, on one line."""
         if isinstance(value, Polynomial):
             return value.text
