@@ -55,21 +55,27 @@ class Fault(SdmpError):
     """
 
     def __init__(self, text, line, column, source, answers):
-        place = 'line %d' % line if column is None else 'line %d, column %d' % (line, column)
-        super().__init__('%s: %s' % (place, text))
+        super().__init__(text, line, column, source, answers)
         self.text = text
         self.line = line
         self.column = column
         self.source = source
         self.answers = answers
 
+    def __str__(self):
+        place = 'line %d' % self.line if self.column is None else 'line %d, column %d' % (self.line, self.column)
+        return '%s: %s' % (place, self.text)
+
 
 class Failure(SdmpError):
     """The program ended without an answer; `status` is its exit status, negative after a signal."""
 
     def __init__(self, status):
-        super().__init__('status %d: %s' % (status, STATUSES.get(status, 'none of the program')))
+        super().__init__(status)
         self.status = status
+
+    def __str__(self):
+        return 'status %d: %s' % (self.status, STATUSES.get(self.status, 'none of the program'))
 
 
 class Polynomial:

@@ -6,6 +6,7 @@ They run the program that the module finds: the environment's SDMP, or ./sdmp.
 """
 import doctest
 import os
+import pickle
 import random
 import stat
 import subprocess
@@ -150,6 +151,8 @@ class Faults(unittest.TestCase):
         fault = self.fault(lambda: session.run([('rem', 'x', 'x'), ('show', 'x'), ('div', 'x', 0), ('show', 'x')]))
         self.assertEqual(str(fault.answers), "[(Polynomial('1'), Polynomial('0')), Polynomial('x')]")
         self.assertEqual(fault.source, 'div p1 p2')
+        copy = pickle.loads(pickle.dumps(fault))
+        self.assertEqual((str(copy), copy.answers), ('line 7: division by zero', fault.answers))
 
     def test_faults_of_the_header(self):
         for call, name, line in ((lambda: sdmp.Session('x 1y'), 'bad name', 1),
@@ -165,7 +168,7 @@ class Faults(unittest.TestCase):
     def test_faulty_words(self):
         with self.assertRaises(sdmp.Failure) as caught:
             sdmp.Session('x', workers=65)
-        self.assertEqual(caught.exception.status, 1)
+        self.assertEqual(str(caught.exception), 'status 1: the words of the command line are faulty')
 
 
 class Programs(unittest.TestCase):
