@@ -3,17 +3,18 @@ use Rattle.std.proofs.lemmas.List.{length-map}
 use denote.Exit.{yes}
 use denote.Param.{copied}
 use denote.Param.Send.{param_send, arg_send}
+use mathlib.Core.List.{[]}
+use mir.Syntax.{named}
 use Rattle.divide_merge.proofs.Shares.{merge_send}
 use Rattle.divide_merge.specs.Names.{row_identity}
 use Rattle.turnstile.proofs.Sharing.{member_send}
-use Rattle.turnstile.specs.Passes.{made_with, HasPass}
+use Rattle.turnstile.specs.Passes.{HasPass}
 use Rattle.term_ring.specs.Names.{ring_name}
 use Rattle.term_ring.specs.Sending.{IsAmong}
 use Rattle.divide_workers.specs.Views.{sender_of}
 use Rattle.divide_workers.specs.Working.{HasRoom}
-use Rattle.divide_workers.specs.Stops.{HasName}
 use Rattle.divide_workers.specs.Rounds.{Moves}
-use Rattle.divide_workers.proofs.Shares.{part_send}
+use Rattle.divide_workers.proofs.Shares.{part_send, captures_sync, shared_sync}
 use Rattle.divide_workers.proofs.Meetings.{all_move}
 use Rattle.divide_workers.proofs.round.advance_all.Goals as goal
 
@@ -22,6 +23,13 @@ for_each_mut-requires-send-T g c κs within =
     let b = c.type_bounds in
     let merge = merge_send (copied 1 g.row.R) (copied 2 g.row.M) (copied 4 g.row.R-E) g.R.CoeffRing g.M.Monomial g.M.Ord g.M.PartialEq g.M.PartialOrd b.send-R b.send-M b.send-R-E in
     param_send _ _ (arg_send _ yes _ (member_send _ _ (part_send _ _ _ g.R.CoeffRing g.M.Monomial g.M.Ord g.M.PartialEq g.M.PartialOrd _ b.send-R b.send-M b.send-R-E b.sync-R b.sync-M b.sync-R-E) merge))
+
+pub for_each_mut-requires-sync-F : goal.for_each_mut-requires-sync-F
+for_each_mut-requires-sync-F g c κs within =
+    let b = c.type_bounds in
+    let shared = shared_sync (copied 1 g.row.R) (copied 2 g.row.M) (copied 4 g.row.R-E) g.R.CoeffRing g.R.Clone g.R.E.Clone g.M.Monomial g.M.Clone g.M.Ord g.M.Eq g.M.PartialEq g.M.PartialOrd record { mir = named 8; lft = κs.1.1.1.1.1.1.1.1.0 } b.send-R b.send-M b.send-R-E b.sync-R in
+    let all = captures_sync [] record { mir = named 7; lft = κs.1.1.1.1.1.1.1.0 } record { mir = named 9; lft = κs.1.1.1.1.1.1.1.1.1.0 } _ _ shared b.sync-G in
+    record { shared = all.shared }
 
 pub for_each_mut-requires-clause-accepts : goal.for_each_mut-requires-clause-accepts
 for_each_mut-requires-clause-accepts g c κs within = λ i p lt is.
