@@ -1,9 +1,7 @@
 -- What a round tells of its merge and of its workers.
-use Rattle.std.proofs.Common.{◌≡◌, ◌⊎◌, inl, inr, ℕ, ◌-◌, ◌<◌, true, false, true≢false, List, [], ◌∷◌, ◌++◌, length, slice_index_or, Option, Some, None, IfSome, refl, sym, ap, ◌∙◌, subst, arith}
+use Rattle.std.proofs.Common.{◌≡◌, inl, inr, ℕ, ◌-◌, ◌<◌, true, false, true≢false, List, [], ◌∷◌, ◌++◌, length, slice_index_or, Option, Some, None, IfSome, refl, sym, ap, ◌∙◌, subst, arith}
 use Rattle.std.specs.Option.{is_some}
 use mathlib.Core.List.{IsPrefix}
-use Rattle.sdmp_laws.specs.Division.{Division}
-use Rattle.divide_wholes.specs.Workers.{WorkerState}
 use Rattle.divide_wholes.specs.Row.{RowNote}
 use Rattle.term_ring.specs.Names.{RingName}
 use Rattle.dividing_rounds.specs.Runs.{DivideRun}

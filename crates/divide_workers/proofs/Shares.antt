@@ -20,7 +20,7 @@ use Rattle.std.specs.declared.clone.Clone as Clone
 use Rattle.canonical_terms.specs.contracts.poly.Poly as Poly
 use Rattle.canonical_terms.specs.contracts.term.TermOf as TermOf
 use Rattle.row_merge.specs.contracts.quotient_rows.QuotientRows as QuotientRows
-use Rattle.term_ring.proofs.Shares.{snapshot_send, snapshot_sync, ring_sync}
+use Rattle.term_ring.proofs.Shares.{snapshot_send, ring_sync}
 use Rattle.term_ring.specs.contracts.ring.Writer as Writer
 use Rattle.quotient_row.specs.contracts.row.Row as Row
 use Rattle.quotient_row.specs.contracts.row.RowReader as RowReader
@@ -73,7 +73,7 @@ module _ (R M E : RattleType) (c : CoeffRing.Ghosts R.Denot E.Denot) (m : Monomi
 module _ (R M E : RattleType) (c : CoeffRing.Ghosts R.Denot E.Denot) (k : Clone.Ghosts R.Denot) (l : Clone.Ghosts E.Denot) (m : Monomial.Ghosts M.Denot) (n : Clone.Ghosts M.Denot) (o : Ord.Ghosts M.Denot) (q : Eq.Ghosts M.Denot) (e : PartialEq.Ghosts M.Denot)
     (p : PartialOrd.Ghosts M.Denot) where
   row_sync : IsSync R → IsSync (Row.the_row R M E c k l m n o q e p)
-  row_sync s = search (sendable, crosses, shared.the_sync, lease.the_sync, snapshot_sync) depth 20
+  row_sync s = search (sendable, crosses, shared.the_sync, lease.the_sync) depth 20
 
   turn_sync : IsSend R → IsSend M → IsSend E
       → IsSync (Turnstile.the_row (DivideMerge.the_row R M E c m o e p) record { naming = DivideName; reaching = DivideReach; name = divide_name; reached = divide_reached; follows = Follows; whole = IsSound m.LIM; follows_itself = Follows-itself })

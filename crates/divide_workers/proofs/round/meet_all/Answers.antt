@@ -1,4 +1,4 @@
-use Rattle.std.proofs.Common.{List, get_or, map, refl, sym, ◌∙◌, subst, arith}
+use Rattle.std.proofs.Common.{List, get_or, map, refl, ◌∙◌, subst, arith}
 use Rattle.std.proofs.lemmas.List.{length-map}
 use Rattle.term_ring.specs.Names.{RingName, NoneBelow-itself}
 use Rattle.term_ring.specs.Sending.{IsAmong}

@@ -1,4 +1,4 @@
-use Rattle.std.proofs.Common.{List, length, map, sym, ap, subst, ◌∙◌, arith}
+use Rattle.std.proofs.Common.{List, map, sym, subst, ◌∙◌, arith}
 use Rattle.term_ring.specs.Names.{RingName}
 use Rattle.divide_merge.specs.Names.{RowIdentity}
 use Rattle.divide_merge.specs.Merges.{verdict_of}
@@ -14,10 +14,13 @@ settle-last-requires-clause-members g c κs within =
     subst (λ (r : RowIdentity). AreMembers c.reserve.new.self.rings r s) (sym (c.reserve.ensures.row ∙ c.in_ok-merge.ensures.row))
     (subst (λ (n : List RingName). AreMembers n c.args.merge.row s) (sym (c.reserve.ensures.rings ∙ c.in_ok-merge.ensures.rings)) m)
 
-pub returns-clause-team : goal.returns-clause-team
-returns-clause-team g c =
+pub returns : goal.returns
+returns g c =
+    let team0 = map (λ w. w.worker.sender) c.args.workers.now in
+    let team1 = map (λ w. w.worker.sender) c.around.new.workers in
+    let team3 = map (λ w. w.worker.sender) c.settle-last.new.workers in
     let x = verdict_of g.M.Monomial.vector g.R.CoeffRing.value c.settle-last.result.answer in
-    let t : IsTaken g.M.Monomial.LIM c.args.merge c.in_ok-merge.merge c.reserve.new.self c.settle-last.new.merge (map (λ w. w.worker.sender) c.args.workers.now) (map (λ w. w.worker.sender) c.around.new.workers) (map (λ w. w.worker.sender) c.settle-last.new.workers) x = record {
+    let t : IsTaken g.M.Monomial.LIM c.args.merge c.in_ok-merge.merge c.reserve.new.self c.settle-last.new.merge team0 team1 team3 x = record {
       began = c.whole.ensures.sound;
       ended = c.settle-last.ensures.sound;
       team = c.requires.team;
@@ -31,25 +34,11 @@ returns-clause-team g c =
       settles = c.settle-last.ensures.settles;
       end_rings = c.settle-last.ensures.rings;
       end_row = c.settle-last.ensures.row;
-    } in
-    round_team g.M.Monomial.LIM c.args.merge c.in_ok-merge.merge c.reserve.new.self c.settle-last.new.merge (map (λ w. w.worker.sender) c.args.workers.now) (map (λ w. w.worker.sender) c.around.new.workers) (map (λ w. w.worker.sender) c.settle-last.new.workers) x t
-
-pub returns-clause-round : goal.returns-clause-round
-returns-clause-round g c =
-    let x = verdict_of g.M.Monomial.vector g.R.CoeffRing.value c.settle-last.result.answer in
-    let t : IsTaken g.M.Monomial.LIM c.args.merge c.in_ok-merge.merge c.reserve.new.self c.settle-last.new.merge (map (λ w. w.worker.sender) c.args.workers.now) (map (λ w. w.worker.sender) c.around.new.workers) (map (λ w. w.worker.sender) c.settle-last.new.workers) x = record {
-      began = c.whole.ensures.sound;
-      ended = c.settle-last.ensures.sound;
-      team = c.requires.team;
-      place = c.requires.place;
-      around = c.in_ok-merge.ensures.reached;
-      moves = c.in_ok-merge.ensures.moves;
-      run = c.reserve.ensures.run;
-      room = let r = c.in_ok-reserve.ensures.room in omega (arith, r);
-      rings = c.reserve.ensures.rings ∙ c.in_ok-merge.ensures.rings;
-      row = c.reserve.ensures.row ∙ c.in_ok-merge.ensures.row;
-      settles = c.settle-last.ensures.settles;
-      end_rings = c.settle-last.ensures.rings;
-      end_row = c.settle-last.ensures.row;
-    } in
-    round_is g.M.Monomial.LIM c.args.merge c.in_ok-merge.merge c.reserve.new.self c.settle-last.new.merge (map (λ w. w.worker.sender) c.args.workers.now) (map (λ w. w.worker.sender) c.around.new.workers) (map (λ w. w.worker.sender) c.settle-last.new.workers) x t
+    } in record {
+      rings = c.settle-last.ensures.rings ∙ t.rings;
+      row = c.settle-last.ensures.row ∙ t.row;
+      team = round_team g.M.Monomial.LIM c.args.merge c.in_ok-merge.merge c.reserve.new.self c.settle-last.new.merge team0 team1 team3 x t;
+      round = round_is g.M.Monomial.LIM c.args.merge c.in_ok-merge.merge c.reserve.new.self c.settle-last.new.merge team0 team1 team3 x t;
+      terms = c.settle-last.ensures.terms;
+      receipt = c.settle-last.ensures.receipt;
+    }
