@@ -11,5 +11,5 @@ pub mod Teams
 pub mod Comparing
 pub mod Fields
 pub mod Shares
-pub mod Meetings
+pub mod TeamSteps
 pub mod Settling

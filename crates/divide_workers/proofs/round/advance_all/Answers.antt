@@ -15,7 +15,7 @@ use Rattle.divide_workers.specs.Views.{sender_of}
 use Rattle.divide_workers.specs.Working.{HasRoom}
 use Rattle.divide_workers.specs.Rounds.{Moves}
 use Rattle.divide_workers.proofs.Shares.{part_send, captures_sync, shared_sync}
-use Rattle.divide_workers.proofs.Meetings.{all_move}
+use Rattle.divide_workers.proofs.TeamSteps.{all_move}
 use Rattle.divide_workers.proofs.round.advance_all.Goals as goal
 
 pub for_each_mut-requires-send-T : goal.for_each_mut-requires-send-T

@@ -6,7 +6,7 @@ use Rattle.divide_merge.specs.Merges.{DivideView}
 use Rattle.divide_merge.specs.Reached.{divide_reached, Follows}
 use Rattle.divide_workers.specs.Views.{WorkerView, sender_of}
 use Rattle.divide_workers.specs.Rounds.{IsTeam, AllMove}
-use Rattle.divide_workers.proofs.Meetings.{all_among, same_views}
+use Rattle.divide_workers.proofs.TeamSteps.{all_among, same_views}
 use Rattle.divide_workers.proofs.round.around.Goals as goal
 
 pub advance_all-requires-clause-have : goal.advance_all-requires-clause-have

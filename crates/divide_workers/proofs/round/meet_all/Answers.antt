@@ -4,7 +4,7 @@ use Rattle.term_ring.specs.Names.{RingName, NoneBelow-itself}
 use Rattle.term_ring.specs.Sending.{IsAmong}
 use Rattle.global_heap.proofs.Steps.{NoneBelow-trans}
 use Rattle.divide_workers.specs.Views.{sender_of}
-use Rattle.divide_workers.proofs.Meetings.{member_among, meets_first, member_here, met_here, all_met, are_workers}
+use Rattle.divide_workers.proofs.TeamSteps.{member_among, meets_first, member_here, met_here, all_met, are_workers}
 use Rattle.divide_workers.proofs.round.meet_all.Goals as goal
 
 pub meet-requires-clause-ring : goal.meet-requires-clause-ring

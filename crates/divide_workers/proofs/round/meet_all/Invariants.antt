@@ -1,6 +1,6 @@
 use Rattle.std.proofs.Common.{◌≡◌, map}
 use Rattle.term_ring.specs.Names.{NoneBelow}
-use Rattle.divide_workers.proofs.Meetings.{MeetsUpTo}
+use Rattle.divide_workers.proofs.TeamSteps.{MeetsUpTo}
 use Rattle.divide_workers.proofs.round.meet_all.Given as goal
 
 abbrev pub invariant-loop-worker : goal.invariant-loop-worker

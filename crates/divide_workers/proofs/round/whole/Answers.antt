@@ -1,6 +1,6 @@
 use Rattle.std.proofs.Common.{subst}
 use Rattle.divide_workers.specs.Rounds.{IsWorker}
-use Rattle.divide_workers.proofs.Meetings.{is_worker}
+use Rattle.divide_workers.proofs.TeamSteps.{is_worker}
 use Rattle.divide_workers.proofs.round.whole.Goals as goal
 
 pub returns : goal.returns
