@@ -12,3 +12,6 @@ pub mod Comparing
 pub mod Fields
 pub mod Looking
 pub mod Meeting
+pub mod Shares
+pub mod TeamSteps
+pub mod Settling

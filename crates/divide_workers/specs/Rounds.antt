@@ -1,20 +1,21 @@
 -- A team of dividing workers around a merge, and a round of it.
-use Rattle.std.specs.Prelude.{◌≡◌, ◌≢◌, ◌⊎◌, ℕ, ◌+◌, ◌<◌, ◌≤◌, false, List, [], length, slice_index_or, Option}
+use Rattle.std.specs.Prelude.{◌≡◌, ◌≢◌, ◌⊎◌, ℕ, ◌+◌, ◌<◌, ◌≤◌, false, List, [], length, slice_index_or, Option, IfSome}
 use mathlib.Core.List.{IsPrefix}
 use Rattle.sdmp_laws.specs.Division.{Division}
 use Rattle.sdmp_laws.specs.LongDivision.{quotient_list}
 use Rattle.divide_wholes.specs.Row.{row_terms}
-use Rattle.term_ring.specs.Names.{RingName}
+use Rattle.term_ring.specs.Names.{RingName, NoneBelow}
 use Rattle.term_ring.specs.Sending.{Sends, HasMet, IsRefused}
 use Rattle.dividing_rounds.specs.Stalls.{IsLowered}
 use Rattle.dividing_rounds.specs.Rounds.{progress, most_rounds}
 use Rattle.divide_merge.specs.Names.{RowIdentity}
 use Rattle.divide_merge.specs.Verdicts.{Verdict, RowIsFull, IsVerdict, kept_of}
-use Rattle.divide_merge.specs.Merges.{DivideView, taken_of, free_places}
+use Rattle.divide_merge.specs.Merges.{DivideView, IsSound, IsCause, taken_of, free_places}
+use Rattle.divide_merge.specs.Reached.{divide_reached, Follows}
 use Rattle.divide_workers.specs.Fronts.{front_mono}
 use Rattle.divide_workers.specs.Paying.{HasRows, IsMarked}
 use Rattle.divide_workers.specs.Views.{WorkerView, sender_of}
-use Rattle.divide_workers.specs.Working.{HasRoom}
+use Rattle.divide_workers.specs.Working.{IsWorking, HasRoom}
 use Rattle.divide_workers.specs.Steps.{Works, HoldsBack, CatchesUp}
 
 -- the worker advanced until its ring was full, or it waited and its last look found nothing, or it has no rows
@@ -38,6 +39,35 @@ pub record Meets (m : DivideView) (a b : WorkerView) : Type 0 where
 pub record AllMeet (m : DivideView) (a b : List WorkerView) : Type 0 where
   pub long : length b ≡ length a
   pub each : (k : ℕ) (d : WorkerView) → k < length a → Meets m (slice_index_or a k d) (slice_index_or b k d)
+
+-- what holds of a worker at any time; the vector of its front has a place for each variable
+pub record IsWorker (lim : ℕ) (v : WorkerView) : Type 0 where
+  pub working : IsWorking lim v
+  pub front : IfSome (front_mono v.front) (λ m. length m ≡ v.state.division.n)
+
+abbrev pub AreWorkers : ℕ → List WorkerView → Type 0
+AreWorkers lim team = (k : ℕ) (d : WorkerView) → k < length team → IsWorker lim (slice_index_or team k d)
+
+-- the workers met the merge a, it advanced and answered x, and they met it again, which left it as b
+pub record Settles (lim : ℕ) (a b : DivideView) (before after : List WorkerView) (x : Verdict) : Type 0 where
+  -- the merge and the workers after the first meeting, and the merge after its advance
+  pub met : DivideView
+  pub team : List WorkerView
+  pub advanced : DivideView
+  pub first : AllMeet met before team
+  pub second : AllMeet b team after
+  pub workers : AreWorkers lim team
+  pub met_run : met.run ≡ a.run
+  pub met_spare : met.spare ≡ a.spare
+  pub sound : IsSound lim advanced
+  pub rings : advanced.rings ≡ a.rings
+  pub row : advanced.row ≡ a.row
+  pub tails : NoneBelow met.tails advanced.tails
+  pub advance : Follows (divide_reached met) (divide_reached advanced)
+  pub answer : advanced.answer ≡ kept_of x
+  pub cause : IsCause met advanced x
+  pub run : b.run ≡ advanced.run
+  pub spare : b.spare ≡ advanced.spare
 
 -- the worker has the number k, its ring is the k-th of these, with a place, and it reads this row
 pub record IsMember (rings : List RingName) (row : RowIdentity) (k : ℕ) (v : WorkerView) : Type 0 where

@@ -1,19 +1,20 @@
 //! A round: the workers advance beside each other, and then the merge.
 
-ghost use Rattle.std.specs.Prelude.{◌≡◌, ◌<◌, ℕ, All, map, IfOk};
+ghost use Rattle.std.specs.Prelude.{◌≡◌, ◌<◌, ℕ, All, map, length, IfOk};
 ghost use Rattle.turnstile.specs.Passes.{made_with, HasPass};
 ghost use Rattle.term_ring.specs.Names.{NoneBelow, ring_name};
 ghost use Rattle.term_ring.specs.Sending.{IsAmong};
 ghost use Rattle.divide_merge.specs.Names.{row_identity};
-ghost use Rattle.divide_merge.specs.Merges.{IsSound};
+ghost use Rattle.divide_merge.specs.Merges.{IsSound, verdict_of};
 ghost use Rattle.divide_merge.specs.Reached.{divide_reached, Follows};
 ghost use Rattle.divide_workers.specs.Views.{sender_of};
 ghost use Rattle.divide_workers.specs.Working.{HasRoom};
 ghost use Rattle.divide_workers.specs.Stops.{HasName};
-ghost use Rattle.divide_workers.specs.Rounds.{AreMembers, IsTeam, IsTold, Moves, AllMove, AllMeet, IsRound};
+ghost use Rattle.divide_workers.specs.Rounds.{AreMembers, AreWorkers, IsWorker, IsTeam, HasPlace, Moves, AllMove, AllMeet, Settles, IsRound};
 
 use crate::ended::Ended;
 use crate::part::{Worker, advance};
+use crate::sender::Sender;
 use crate::shared::Shared;
 use coeff_ring::CoeffRing;
 use divide_merge::{DivideAdvanced, DivideMerge};
@@ -51,6 +52,13 @@ fn advance_all<T: Threads + Sync, R: CoeffRing, M: Monomial, G: Gate>(
     }
 }
 
+// what always holds of a worker; the call does nothing
+fn whole<R: CoeffRing, M: Monomial>(sender: &Sender<'_, R, M>)
+    ensures { IsWorker M.LIM sender.now }
+{
+    let _place = sender.place;
+}
+
 // each worker and the merge meet
 fn meet_all<R: CoeffRing, M: Monomial>(
     rings: &[Ring<R, M>],
@@ -67,9 +75,12 @@ fn meet_all<R: CoeffRing, M: Monomial>(
     ensures spare { merge.new.spare ≡ merge.old.spare }
     ensures tails { NoneBelow merge.old.tails merge.new.tails }
     ensures meet { AllMeet merge.new (map (λ w. w.worker.sender) workers.old) (map (λ w. w.worker.sender) workers.new) }
+    ensures workers { AreWorkers M.LIM (map (λ w. w.worker.sender) workers.new) }
 {
     for worker in 0..workers.len() {
-        workers[worker].worker.meet(rings, row, merge);
+        let part = &mut workers[worker].worker;
+        part.meet(rings, row, merge);
+        whole(&part.sender);
     }
 }
 
@@ -85,7 +96,7 @@ fn around<T: Threads + Sync, R: CoeffRing, M: Monomial, G: Gate>(
 ) -> Result<DivideMerge<R, M>, NoMemory>
     requires rings { merge.rings ≡ map ring_name rings.now }
     requires row { merge.row ≡ row_identity row.now }
-    requires members { AreMembers merge.rings merge.row (map (λ w. w.worker.sender) workers.old) }
+    requires team { IsTeam merge (map (λ w. w.worker.sender) workers.old) }
     ensures rings { IfOk result (λ m. m.rings ≡ merge.rings) }
     ensures row { IfOk result (λ m. m.row ≡ merge.row) }
     ensures reached { IfOk result (λ m. Follows (divide_reached merge) (divide_reached m)) }
@@ -120,15 +131,13 @@ fn settle<R: CoeffRing, M: Monomial>(
     requires rings { merge.old.rings ≡ map ring_name rings.now }
     requires row { merge.old.row ≡ row_identity row.now }
     requires members { AreMembers merge.old.rings merge.old.row (map (λ w. w.worker.sender) workers.old) }
-    requires room { 0 < merge.old.spare }
     ensures sound { IsSound M.LIM merge.new }
     ensures rings { merge.new.rings ≡ merge.old.rings }
     ensures row { merge.new.row ≡ merge.old.row }
-    ensures members { AreMembers merge.new.rings merge.new.row (map (λ w. w.worker.sender) workers.new) }
-    ensures told { IsTold merge.new (map (λ w. w.worker.sender) workers.new) }
+    ensures settles { Settles M.LIM merge.old merge.new (map (λ w. w.worker.sender) workers.old) (map (λ w. w.worker.sender) workers.new) (verdict_of M.vector R.value result.answer) }
+    ensures terms { result.terms ≡ length merge.new.run.state.q }
     ensures receipt { result.merge.value.run ≡ merge.new.run }
 {
-    merge.whole();
     meet_all(rings, row, workers, merge);
     let last = merge.advance(rings, row, &mut Steps::new());
     merge.whole();
@@ -158,6 +167,7 @@ pub(crate) fn round<T: Threads + Sync, R: CoeffRing, M: Monomial, G: Gate>(
     ensures terms { IfOk result (λ r. r.1.terms ≡ length r.0.run.state.q) }
     ensures receipt { IfOk result (λ r. r.1.merge.value.run ≡ r.0.run) }
 {
+    merge.whole();
     let mut merge = around(threads, alloc, merge, rings, row, workers, gate)?;
     merge.reserve(1)?;
     let last = settle(rings, row, workers, &mut merge);
