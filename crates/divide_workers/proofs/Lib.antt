@@ -10,3 +10,5 @@ pub mod Bounding
 pub mod Teams
 pub mod Comparing
 pub mod Fields
+pub mod Waits
+pub mod Pushing

@@ -1,0 +1,57 @@
+-- A dividing worker that pushes and waits for room, and one that sends all that it may.
+use Rattle.std.proofs.Common.{◌≡◌, ℕ, ◌+◌, ◌*◌, ◌<◌, ◌≤◌, List, [], ◌∷◌, length, Option, Some, None, refl, sym, ap, ◌∙◌, subst, arith}
+use Rattle.sdmp_laws.specs.Poly.{Term}
+use Rattle.turnstile.specs.declared.turn.Pass.{Pass}
+use Rattle.turnstile.specs.Passes.{entries, busy}
+use Rattle.divide_wholes.specs.Workers.{worker_rows}
+use Rattle.divide_merge.specs.Merges.{DivideView}
+use Rattle.divide_merge.specs.Reached.{DivideName}
+use Rattle.divide_merge.specs.declared.receipt.DivideAdvanced.{DivideAdvanced}
+use Rattle.divide_workers.specs.Fronts.{PlainFront}
+use Rattle.divide_workers.specs.Views.{WorkerView, sender_of}
+use Rattle.divide_workers.specs.Steps.{Works, HandsOut, IsFrontier, Pushes, Refuses}
+use Rattle.divide_workers.specs.Stops.{StaysRefused, IsReceipt}
+use Rattle.divide_workers.proofs.Working.{works_again}
+use Rattle.divide_workers.proofs.Waits.{pushes_later}
+
+-- ---- a push that was refused, and a wait for room after it
+refused_stays : (a b : WorkerView) → Refuses a b → StaysRefused a b
+refused_stays a b f = record { same = f.same; head = f.works.sends.head; looks = f.works.looks; refused = f.refused }
+
+pub pushes_after : (a b c : WorkerView) → Refuses a b → Pushes b c → Pushes a c
+pushes_after a b c f g = pushes_later a b c f.works (refused_stays a b f) g
+
+pub refuses_after : (a b c : WorkerView) → Refuses a b → Works b c → StaysRefused b c → Refuses a c
+refuses_after a b c f w g = record {
+  works = works_again a b c f.works w;
+  same = g.same ∙ ap (λ (v : WorkerView). record v { head = c.head; full_looks = c.full_looks }) f.same;
+  refused = g.refused;
+  was = let x = f.was in let y = g.looks in omega (arith, x, y);
+}
+
+-- ---- one push after another
+-- a receipt since a later pass is one since an earlier
+pub receipt_before : {X M E : Type 0} (name : DivideName) (tries : ℕ) (p q r : Pass DivideView) (a : Option (DivideAdvanced X M E)) → entries p ≤ entries q → busy p ≤ busy q → IsReceipt name tries q r a → IsReceipt name tries p r a
+receipt_before name tries p q r None e b h = omega arith
+receipt_before name tries p q r (Some x) e b h = (let l = h.0 in omega arith, h.1)
+
+-- a push changes neither the front nor the products
+pub frontier_kept : (a b : WorkerView) (f : Option PlainFront) → Pushes a b → IsFrontier a f → IsFrontier b f
+unfolding IsFrontier worker_rows
+frontier_kept a b None g k = subst (λ (v : WorkerView). IsFrontier v None) (sym g.same) k
+frontier_kept a b (Some f) g k = subst (λ (v : WorkerView). IsFrontier v (Some f)) (sym g.same) (k.0, k.1, k.2, k.3)
+
+-- how much is left to hand out and to send
+abbrev pub left_to_send : WorkerView → ℕ
+left_to_send v = 2 * length v.state.unread + length v.state.kept
+
+falls : (k : List Term) (u v : ℕ) → v ≤ u → (k ≡ [] → v < u) → 2 * v < 2 * u + length k
+falls [] u v le lt = let l = lt refl in omega arith
+falls (x ∷ k) u v le lt = omega arith
+
+pub less_left : (a b c : WorkerView) → HandsOut a b → (a.state.kept ≡ [] → length b.state.unread < length a.state.unread) → Pushes b c → left_to_send c < left_to_send a
+less_left a b c h f g =
+    let l = falls a.state.kept (length a.state.unread) (length b.state.unread) h.less f in
+    let u : length c.state.unread ≡ length b.state.unread = ap (λ (v : WorkerView). length v.state.unread) g.same in
+    let k : length c.state.kept ≡ 0 = ap (λ (v : WorkerView). length v.state.kept) g.same in
+    omega (arith, l, u, k)

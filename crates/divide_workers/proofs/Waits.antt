@@ -1,0 +1,61 @@
+-- A dividing worker that waits: what it keeps, and when it gives up.
+use Rattle.std.proofs.Common.{◌≡◌, ℕ, ◌+◌, ◌<◌, ◌≤◌, length, [], Option, Some, None, refl, sym, ap, ◌∙◌, subst, arith}
+use Rattle.turnstile.specs.declared.turn.Pass.{Pass}
+use Rattle.turnstile.specs.Passes.{patience}
+use Rattle.divide_merge.specs.Names.{RowIdentity}
+use Rattle.divide_merge.specs.Merges.{DivideView, Grows}
+use Rattle.divide_merge.specs.Reached.{DivideName, divide_name}
+use Rattle.divide_merge.specs.declared.receipt.DivideAdvanced.{DivideAdvanced}
+use Rattle.divide_workers.specs.Paying.{HasRows}
+use Rattle.divide_workers.specs.Views.{WorkerView, sender_of}
+use Rattle.divide_workers.specs.Working.{HasRoom}
+use Rattle.divide_workers.specs.Steps.{Works, FindsNothing, Pushes, Refuses}
+use Rattle.divide_workers.specs.Stops.{StaysRefused, StaysUntold, IsReceipt, MayGiveUp}
+use Rattle.divide_workers.proofs.Working.{works_again}
+
+-- an advance leaves the merge its rings and its row
+pub name_stays : (a b : DivideView) → Grows a b → divide_name b ≡ divide_name a
+name_stays a b g = λ i. record { rings = g.rings i; row = g.row i }
+
+module _ {X M E : Type 0} where
+  -- a worker gives up after patience tries, or with a receipt
+  pub gives_up : (name : DivideName) (tries : ℕ) (p q : Pass DivideView) (a : Option (DivideAdvanced X M E)) → MayGiveUp tries a → IsReceipt name tries p q a → IsReceipt name patience p q a
+  gives_up name tries p q None m h = omega arith
+  gives_up name tries p q (Some x) m h = h
+
+-- ---- a wait for room
+pub stays_refused : (a b c : WorkerView) → StaysRefused a b → Refuses b c → StaysRefused a c
+stays_refused a b c f g = record {
+  same = g.same ∙ ap (λ (v : WorkerView). record v { head = c.head; full_looks = c.full_looks }) f.same;
+  head = let x = f.head in let y = g.works.sends.head in omega (arith, x, y);
+  looks = let x = f.looks in let y = g.works.looks in omega (arith, x, y);
+  refused = g.refused;
+}
+
+pub pushes_later : (a b c : WorkerView) → Works a b → StaysRefused a b → Pushes b c → Pushes a c
+pushes_later a b c w f g = record {
+  works = works_again a b c w g.works;
+  same = g.same ∙ ap (λ (v : WorkerView). record v { state = record v.state { kept = []; sent = c.state.sent }; head = c.head; full_looks = c.full_looks }) f.same;
+  marked = λ k. g.marked (ap (λ (v : WorkerView). v.state.kept) f.same ∙ k);
+}
+
+-- ---- a wait for news
+pub stays_untold : (a b c : WorkerView) → StaysUntold a b → Works b c → FindsNothing b c → StaysUntold a c
+stays_untold a b c f w g = record {
+  same = g.same ∙ ap (λ (v : WorkerView). record v { count = c.count; loads = c.loads }) f.same;
+  more = let x = f.more in let y = w.count in omega (arith, x, y);
+  loads = let x = f.loads in let y = w.loads in omega (arith, x, y);
+  count = g.count;
+}
+
+pub untold_row : (a b : WorkerView) (row : RowIdentity) → StaysUntold a b → a.row ≡ row → b.row ≡ row
+untold_row a b row f e = ap (λ (v : WorkerView). v.row) f.same ∙ e
+
+pub untold_rows : (a b : WorkerView) → StaysUntold a b → HasRows a.state → HasRows b.state
+untold_rows a b f r = subst (λ (v : WorkerView). HasRows v.state) (sym f.same) r
+
+pub untold_room : (a b : WorkerView) → StaysUntold a b → HasRoom a → HasRoom b
+untold_room a b f r = subst HasRoom (sym f.same) r
+
+pub untold_news : (a b c : WorkerView) → StaysUntold a b → length c.notes ≡ length b.notes + 1 → length a.notes < length c.notes
+untold_news a b c f n = let e = ap (λ (v : WorkerView). length v.notes) f.same in omega (arith, e, n)
