@@ -2,6 +2,7 @@
 use Rattle.std.proofs.Common.{◌≡◌, ℕ, ◌+◌, ◌<◌, ◌≤◌, length, [], Option, Some, None, refl, sym, ap, ◌∙◌, subst, arith}
 use Rattle.turnstile.specs.declared.turn.Pass.{Pass}
 use Rattle.turnstile.specs.Passes.{patience}
+use Rattle.term_ring.specs.Sending.{IsRefused}
 use Rattle.divide_merge.specs.Names.{RowIdentity}
 use Rattle.divide_merge.specs.Merges.{DivideView, Grows}
 use Rattle.divide_merge.specs.Reached.{DivideName, divide_name}
@@ -24,6 +25,9 @@ module _ {X M E : Type 0} where
   gives_up name tries p q (Some x) m h = h
 
 -- ---- a wait for room
+pub refused_itself : (v : WorkerView) → IsRefused (sender_of v) → StaysRefused v v
+refused_itself v r = record { same = refl; head = omega arith; looks = omega arith; refused = r }
+
 pub stays_refused : (a b c : WorkerView) → StaysRefused a b → Refuses b c → StaysRefused a c
 stays_refused a b c f g = record {
   same = g.same ∙ ap (λ (v : WorkerView). record v { head = c.head; full_looks = c.full_looks }) f.same;
@@ -40,6 +44,9 @@ pushes_later a b c w f g = record {
 }
 
 -- ---- a wait for news
+pub untold_itself : (v : WorkerView) → v.count ≡ length v.notes → StaysUntold v v
+untold_itself v e = record { same = refl; more = omega arith; loads = omega arith; count = e }
+
 pub stays_untold : (a b c : WorkerView) → StaysUntold a b → Works b c → FindsNothing b c → StaysUntold a c
 stays_untold a b c f w g = record {
   same = g.same ∙ ap (λ (v : WorkerView). record v { count = c.count; loads = c.loads }) f.same;
