@@ -12,3 +12,4 @@ pub mod Comparing
 pub mod Fields
 pub mod Waits
 pub mod Pushing
+pub mod Handing

@@ -4,6 +4,7 @@ use Rattle.sdmp_laws.specs.Poly.{Term}
 use Rattle.turnstile.specs.declared.turn.Pass.{Pass}
 use Rattle.turnstile.specs.Passes.{entries, busy}
 use Rattle.divide_wholes.specs.Workers.{worker_rows}
+use Rattle.term_ring.specs.Sending.{IsRefused, WasRefused}
 use Rattle.divide_merge.specs.Merges.{DivideView}
 use Rattle.divide_merge.specs.Reached.{DivideName}
 use Rattle.divide_merge.specs.declared.receipt.DivideAdvanced.{DivideAdvanced}
@@ -55,3 +56,13 @@ less_left a b c h f g =
     let u : length c.state.unread ≡ length b.state.unread = ap (λ (v : WorkerView). length v.state.unread) g.same in
     let k : length c.state.kept ≡ 0 = ap (λ (v : WorkerView). length v.state.kept) g.same in
     omega (arith, l, u, k)
+
+-- ---- it hands out, and pushes what it keeps
+pub works_on : (a b c d : WorkerView) → Works a b → HandsOut b c → Works c d → Works a d
+works_on a b c d w h p = works_again a c d (works_again a b c w h.works) p
+
+pub notes_on : (a b c d : WorkerView) → b.notes ≡ a.notes → HandsOut b c → d.notes ≡ c.notes → d.notes ≡ a.notes
+notes_on a b c d e h p = p ∙ ap (λ (v : WorkerView). v.notes) h.same ∙ e
+
+pub refused_on : (a b c d : WorkerView) → Works a b → HandsOut b c → Refuses c d → IsRefused (sender_of d) × WasRefused (sender_of a) (sender_of d)
+refused_on a b c d w h r = (r.refused, let x = w.looks in let y = h.works.looks in let z = r.was in omega (arith, x, y, z))
