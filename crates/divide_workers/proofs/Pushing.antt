@@ -1,9 +1,10 @@
 -- A dividing worker that pushes and waits for room, and one that sends all that it may.
-use Rattle.std.proofs.Common.{◌≡◌, ℕ, ◌+◌, ◌*◌, ◌<◌, ◌≤◌, List, [], ◌∷◌, length, Option, Some, None, refl, sym, ap, ◌∙◌, subst, arith}
+use Rattle.std.proofs.Common.{◌≡◌, ℕ, ◌+◌, ◌*◌, ◌<◌, ◌≤◌, List, [], ◌∷◌, length, Option, Some, None, Result, Ok, Err, IfErr, IsErrAnd, refl, sym, ap, ◌∙◌, subst, arith}
 use Rattle.sdmp_laws.specs.Poly.{Term}
 use Rattle.turnstile.specs.declared.turn.Pass.{Pass}
 use Rattle.turnstile.specs.Passes.{entries, busy}
 use Rattle.divide_wholes.specs.Workers.{worker_rows}
+use Rattle.term_ring.specs.Names.{RingName}
 use Rattle.term_ring.specs.Sending.{IsRefused, WasRefused}
 use Rattle.divide_merge.specs.Merges.{DivideView}
 use Rattle.divide_merge.specs.Reached.{DivideName}
@@ -66,3 +67,11 @@ notes_on a b c d e h p = p ∙ ap (λ (v : WorkerView). v.notes) h.same ∙ e
 
 pub refused_on : (a b c d : WorkerView) → Works a b → HandsOut b c → Refuses c d → IsRefused (sender_of d) × WasRefused (sender_of a) (sender_of d)
 refused_on a b c d w h r = (r.refused, let x = w.looks in let y = h.works.looks in let z = r.was in omega (arith, x, y, z))
+
+-- an error that `?` passes up
+pub passed_up : {T E : Type 0} (r : Result T E) (e : E) (P : E → Type 0) → IsErrAnd r (λ y. y ≡ e) → P e → IfErr r P
+passed_up (Ok x) e P is p = tt
+passed_up (Err y) e P is p = subst P (sym is) p
+
+pub ring_on : (a b c : WorkerView) (n : RingName) → Works a b → HandsOut b c → n ≡ a.ring → n ≡ c.ring
+ring_on a b c n w h e = e ∙ sym (h.works.sends.ring ∙ w.sends.ring)
