@@ -7,7 +7,7 @@ use Rattle.divide_workers.proofs.Pushing.{pushes_after, refuses_after}
 use Rattle.divide_workers.proofs.part.Part.push.Goals as goal
 
 pub wait_for_room-requires-clause-ring : goal.wait_for_room-requires-clause-ring
-wait_for_room-requires-clause-ring g c = c.requires.ring ∙ sym (ap (λ (v : WorkerView). v.ring) c.in-Err.ensures.refused.same)
+wait_for_room-requires-clause-ring g c κs within = c.requires.ring ∙ sym (ap (λ (v : WorkerView). v.ring) c.in-Err.ensures.refused.same)
 
 pub returns-clause-sent : goal.returns-clause-sent
 returns-clause-sent g c =

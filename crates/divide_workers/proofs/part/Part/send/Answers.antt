@@ -11,8 +11,8 @@ use Rattle.divide_workers.proofs.Working.{works_itself, works_again}
 use Rattle.divide_workers.proofs.Pushing.{receipt_before, frontier_kept, less_left, works_on, notes_on, refused_on, passed_up, ring_on}
 use Rattle.divide_workers.proofs.part.Part.send.Goals as goal
 
-pub loop-self-init : goal.loop-self-init
-loop-self-init g c =
+pub loop-frontier-init : goal.loop-frontier-init
+loop-frontier-init g c =
     record {
       pass = c.requires.pass;
       entries_rise = omega arith;
@@ -24,55 +24,55 @@ loop-self-init g c =
 
 pub push-requires-clause-ring : goal.push-requires-clause-ring
 push-requires-clause-ring g c =
-    ring_on c.args.self.now.sender c.loop-self.self.sender c.keep_next.new.self (ring_name c.args.ring.now) c.loop-self.invariant.works c.keep_next.ensures.hands c.requires.ring
+    ring_on c.args.self.now.sender c.loop-frontier.self.sender c.keep_next.new.self (ring_name c.args.ring.now) c.loop-frontier.invariant.works c.keep_next.ensures.hands c.requires.ring
 
-pub loop-self-preserved : goal.loop-self-preserved
-loop-self-preserved g c =
-    let i = c.loop-self.invariant in
+pub loop-frontier-preserved : goal.loop-frontier-preserved
+loop-frontier-preserved g c =
+    let i = c.loop-frontier.invariant in
     let h = c.keep_next.ensures.hands in
     let p = c.in_ok-push.ensures.sent in
     record {
       pass = c.push.ensures.pass;
       entries_rise = let a = i.entries_rise in let b = c.push.ensures.entries in omega arith;
       busy_rise = let a = i.busy_rise in let b = c.push.ensures.busy in omega arith;
-      works = works_on c.args.self.now.sender c.loop-self.self.sender c.keep_next.new.self c.push.new.self.sender i.works h p.works;
-      notes = notes_on c.args.self.now.sender c.loop-self.self.sender c.keep_next.new.self c.push.new.self.sender i.notes h (ap (λ (v : WorkerView). v.notes) p.same);
+      works = works_on c.args.self.now.sender c.loop-frontier.self.sender c.keep_next.new.self c.push.new.self.sender i.works h p.works;
+      notes = notes_on c.args.self.now.sender c.loop-frontier.self.sender c.keep_next.new.self c.push.new.self.sender i.notes h (ap (λ (v : WorkerView). v.notes) p.same);
       frontier = frontier_kept c.keep_next.new.self c.push.new.self.sender (plain_front g.M.Monomial.vector c.frontier-frontier.result) p c.keep_next.ensures.frontier;
     }
 
-pub loop-self-smaller : goal.loop-self-smaller
-loop-self-smaller g c =
-    less_left c.loop-self.self.sender c.keep_next.new.self c.push.new.self.sender c.keep_next.ensures.hands (c.keep_next.ensures.fewer c.loop-self-test.true) c.in_ok-push.ensures.sent
+pub loop-frontier-smaller : goal.loop-frontier-smaller
+loop-frontier-smaller g c =
+    less_left c.loop-frontier.self.sender c.keep_next.new.self c.push.new.self.sender c.keep_next.ensures.hands (c.keep_next.ensures.fewer c.loop-frontier-test.true) c.in_ok-push.ensures.sent
 
 pub returns-in_err-push-clause-works : goal.returns-in_err-push-clause-works
 returns-in_err-push-clause-works g c =
-    works_on c.args.self.now.sender c.loop-self.self.sender c.keep_next.new.self c.push.new.self.sender c.loop-self.invariant.works c.keep_next.ensures.hands c.in_err-push.ensures.refused.works
+    works_on c.args.self.now.sender c.loop-frontier.self.sender c.keep_next.new.self c.push.new.self.sender c.loop-frontier.invariant.works c.keep_next.ensures.hands c.in_err-push.ensures.refused.works
 
 pub returns-in_err-push-clause-row : goal.returns-in_err-push-clause-row
 returns-in_err-push-clause-row g c =
-    let i = c.loop-self.invariant in
+    let i = c.loop-frontier.invariant in
     let h = c.keep_next.ensures.hands in
     let r = c.in_err-push.ensures.refused in
-    (notes_on c.args.self.now.sender c.loop-self.self.sender c.keep_next.new.self c.push.new.self.sender i.notes h (ap (λ (v : WorkerView). v.notes) r.same), r.works.row ∙ h.works.row ∙ i.works.row)
+    (notes_on c.args.self.now.sender c.loop-frontier.self.sender c.keep_next.new.self c.push.new.self.sender i.notes h (ap (λ (v : WorkerView). v.notes) r.same), r.works.row ∙ h.works.row ∙ i.works.row)
 
 pub returns-in_err-push-clause-refused : goal.returns-in_err-push-clause-refused
 returns-in_err-push-clause-refused g c =
     if_err c.from_residual.result (IsRefused (sender_of c.push.new.self.sender) × WasRefused (sender_of c.args.self.now.sender) (sender_of c.push.new.self.sender))
-    (refused_on c.args.self.now.sender c.loop-self.self.sender c.keep_next.new.self c.push.new.self.sender c.loop-self.invariant.works c.keep_next.ensures.hands c.in_err-push.ensures.refused)
+    (refused_on c.args.self.now.sender c.loop-frontier.self.sender c.keep_next.new.self c.push.new.self.sender c.loop-frontier.invariant.works c.keep_next.ensures.hands c.in_err-push.ensures.refused)
 
 pub returns-in_err-push-clause-receipt : goal.returns-in_err-push-clause-receipt
 returns-in_err-push-clause-receipt g c =
-    let i = c.loop-self.invariant in
+    let i = c.loop-frontier.invariant in
     let name = divide_name (made_with c.args.shared.now.turnstile.now) in
     passed_up c.from_residual.result c.in_err-push.field-0.0 (IsReceipt name patience c.args.pass.now c.push.new.pass) c.from_residual.ensures.1
-    (receipt_before name patience c.args.pass.now c.loop-self.pass c.push.new.pass c.in_err-push.field-0.0 i.entries_rise i.busy_rise c.in_err-push.ensures.receipt)
+    (receipt_before name patience c.args.pass.now c.loop-frontier.pass c.push.new.pass c.in_err-push.field-0.0 i.entries_rise i.busy_rise c.in_err-push.ensures.receipt)
 
 pub returns-clause-works : goal.returns-clause-works
 returns-clause-works g c =
-    works_again c.args.self.now.sender c.loop-self.self.sender c.keep_next.new.self c.loop-self.invariant.works c.keep_next.ensures.hands.works
+    works_again c.args.self.now.sender c.loop-frontier.self.sender c.keep_next.new.self c.loop-frontier.invariant.works c.keep_next.ensures.hands.works
 
 pub returns-clause-row : goal.returns-clause-row
 returns-clause-row g c =
-    let i = c.loop-self.invariant in
+    let i = c.loop-frontier.invariant in
     let h = c.keep_next.ensures.hands in
     (ap (λ (v : WorkerView). v.notes) h.same ∙ i.notes, h.works.row ∙ i.works.row)
