@@ -62,8 +62,15 @@ less_left a b c h f g =
 pub works_on : (a b c d : WorkerView) → Works a b → HandsOut b c → Works c d → Works a d
 works_on a b c d w h p = works_again a c d (works_again a b c w h.works) p
 
-pub notes_on : (a b c d : WorkerView) → b.notes ≡ a.notes → HandsOut b c → d.notes ≡ c.notes → d.notes ≡ a.notes
-notes_on a b c d e h p = p ∙ ap (λ (v : WorkerView). v.notes) h.same ∙ e
+-- no step of these tells it a note
+pub pushes_notes : (a b : WorkerView) → Pushes a b → b.notes ≡ a.notes
+pushes_notes a b p = ap (λ (v : WorkerView). v.notes) p.same
+
+pub refuses_notes : (a b : WorkerView) → Refuses a b → b.notes ≡ a.notes
+refuses_notes a b r = ap (λ (v : WorkerView). v.notes) r.same
+
+pub hands_notes : (a b c : WorkerView) → b.notes ≡ a.notes → HandsOut b c → c.notes ≡ a.notes
+hands_notes a b c e h = ap (λ (v : WorkerView). v.notes) h.same ∙ e
 
 pub refused_on : (a b c d : WorkerView) → Works a b → HandsOut b c → Refuses c d → IsRefused (sender_of d) × WasRefused (sender_of a) (sender_of d)
 refused_on a b c d w h r = (r.refused, let x = w.looks in let y = h.works.looks in let z = r.was in omega (arith, x, y, z))

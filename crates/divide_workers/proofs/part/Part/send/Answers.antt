@@ -1,14 +1,14 @@
-use Rattle.std.proofs.Common.{refl, ap, ◌∙◌, arith}
+use Rattle.std.proofs.Common.{refl, ◌∙◌, arith}
 use Rattle.turnstile.specs.Passes.{made_with, patience}
 use Rattle.term_ring.specs.Names.{ring_name}
 use Rattle.term_ring.specs.Sending.{IsRefused, WasRefused}
 use Rattle.divide_merge.specs.Reached.{divide_name}
 use Rattle.divide_workers.specs.Fronts.{plain_front}
 use Rattle.divide_workers.specs.Stops.{IsReceipt}
-use Rattle.divide_workers.specs.Views.{WorkerView, sender_of}
+use Rattle.divide_workers.specs.Views.{sender_of}
 use Rattle.divide_workers.proofs.Fields.{if_err}
 use Rattle.divide_workers.proofs.Working.{works_itself, works_again}
-use Rattle.divide_workers.proofs.Pushing.{receipt_before, frontier_kept, less_left, works_on, notes_on, refused_on, passed_up, ring_on}
+use Rattle.divide_workers.proofs.Pushing.{receipt_before, frontier_kept, less_left, works_on, pushes_notes, refuses_notes, hands_notes, refused_on, passed_up, ring_on}
 use Rattle.divide_workers.proofs.part.Part.send.Goals as goal
 
 pub loop-frontier-init : goal.loop-frontier-init
@@ -23,7 +23,7 @@ loop-frontier-init g c =
     }
 
 pub push-requires-clause-ring : goal.push-requires-clause-ring
-push-requires-clause-ring g c =
+push-requires-clause-ring g c κs within =
     ring_on c.args.self.now.sender c.loop-frontier.self.sender c.keep_next.new.self (ring_name c.args.ring.now) c.loop-frontier.invariant.works c.keep_next.ensures.hands c.requires.ring
 
 pub loop-frontier-preserved : goal.loop-frontier-preserved
@@ -36,7 +36,7 @@ loop-frontier-preserved g c =
       entries_rise = let a = i.entries_rise in let b = c.push.ensures.entries in omega arith;
       busy_rise = let a = i.busy_rise in let b = c.push.ensures.busy in omega arith;
       works = works_on c.args.self.now.sender c.loop-frontier.self.sender c.keep_next.new.self c.push.new.self.sender i.works h p.works;
-      notes = notes_on c.args.self.now.sender c.loop-frontier.self.sender c.keep_next.new.self c.push.new.self.sender i.notes h (ap (λ (v : WorkerView). v.notes) p.same);
+      notes = pushes_notes c.keep_next.new.self c.push.new.self.sender p ∙ hands_notes c.args.self.now.sender c.loop-frontier.self.sender c.keep_next.new.self i.notes h;
       frontier = frontier_kept c.keep_next.new.self c.push.new.self.sender (plain_front g.M.Monomial.vector c.frontier-frontier.result) p c.keep_next.ensures.frontier;
     }
 
@@ -53,7 +53,7 @@ returns-in_err-push-clause-row g c =
     let i = c.loop-frontier.invariant in
     let h = c.keep_next.ensures.hands in
     let r = c.in_err-push.ensures.refused in
-    (notes_on c.args.self.now.sender c.loop-frontier.self.sender c.keep_next.new.self c.push.new.self.sender i.notes h (ap (λ (v : WorkerView). v.notes) r.same), r.works.row ∙ h.works.row ∙ i.works.row)
+    (refuses_notes c.keep_next.new.self c.push.new.self.sender r ∙ hands_notes c.args.self.now.sender c.loop-frontier.self.sender c.keep_next.new.self i.notes h, r.works.row ∙ h.works.row ∙ i.works.row)
 
 pub returns-in_err-push-clause-refused : goal.returns-in_err-push-clause-refused
 returns-in_err-push-clause-refused g c =
@@ -75,4 +75,4 @@ pub returns-clause-row : goal.returns-clause-row
 returns-clause-row g c =
     let i = c.loop-frontier.invariant in
     let h = c.keep_next.ensures.hands in
-    (ap (λ (v : WorkerView). v.notes) h.same ∙ i.notes, h.works.row ∙ i.works.row)
+    (hands_notes c.args.self.now.sender c.loop-frontier.self.sender c.keep_next.new.self i.notes h, h.works.row ∙ i.works.row)
