@@ -1,5 +1,5 @@
 -- That a worker holds fewer products where it has come by a term to send.
-use Rattle.std.proofs.Common.{◌≡◌, ◌≢◌, ◌⊎◌, inl, inr, ◌<◌, [], length, ◌∙◌, arith}
+use Rattle.std.proofs.Common.{◌≡◌, ◌⊎◌, inl, ◌<◌, length, arith}
 use Rattle.divide_workers.specs.Views.{WorkerView}
 use Rattle.divide_workers.specs.Steps.{HandsOut}
 
@@ -9,7 +9,3 @@ HandsFewer a b = (length b.state.unread < length a.state.unread) ⊎ (b.state.ke
 
 pub hands_fewer : (a b c : WorkerView) → HandsOut a b → length c.state.unread < length b.state.unread → HandsFewer a c
 hands_fewer a b c h f = inl (let l = h.less in omega (arith, l, f))
-
-pub fewer_held : (a b : WorkerView) → HandsFewer a b → b.state.kept ≢ [] → a.state.kept ≡ [] → length b.state.unread < length a.state.unread
-fewer_held a b (inl f) n e = f
-fewer_held a b (inr k) n e = absurd (n (k ∙ e))

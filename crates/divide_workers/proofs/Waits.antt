@@ -1,15 +1,12 @@
 -- A dividing worker that waits: what it keeps, and when it gives up.
-use Rattle.std.proofs.Common.{◌≡◌, ℕ, ◌+◌, ◌<◌, ◌≤◌, length, [], Option, Some, None, refl, sym, ap, ◌∙◌, subst, arith}
+use Rattle.std.proofs.Common.{◌≡◌, ℕ, length, [], Option, Some, None, refl, ap, ◌∙◌, arith}
 use Rattle.turnstile.specs.declared.turn.Pass.{Pass}
 use Rattle.turnstile.specs.Passes.{patience}
 use Rattle.term_ring.specs.Sending.{IsRefused}
-use Rattle.divide_merge.specs.Names.{RowIdentity}
 use Rattle.divide_merge.specs.Merges.{DivideView, Grows}
 use Rattle.divide_merge.specs.Reached.{DivideName, divide_name}
 use Rattle.divide_merge.specs.declared.receipt.DivideAdvanced.{DivideAdvanced}
-use Rattle.divide_workers.specs.Paying.{HasRows}
 use Rattle.divide_workers.specs.Views.{WorkerView, sender_of}
-use Rattle.divide_workers.specs.Working.{HasRoom}
 use Rattle.divide_workers.specs.Steps.{Works, FindsNothing, Pushes, Refuses}
 use Rattle.divide_workers.specs.Stops.{StaysRefused, StaysUntold, IsReceipt, MayGiveUp}
 use Rattle.divide_workers.proofs.Working.{works_again}
@@ -54,15 +51,3 @@ stays_untold a b c f w g = record {
   loads = let x = f.loads in let y = w.loads in omega (arith, x, y);
   count = g.count;
 }
-
-pub untold_row : (a b : WorkerView) (row : RowIdentity) → StaysUntold a b → a.row ≡ row → b.row ≡ row
-untold_row a b row f e = ap (λ (v : WorkerView). v.row) f.same ∙ e
-
-pub untold_rows : (a b : WorkerView) → StaysUntold a b → HasRows a.state → HasRows b.state
-untold_rows a b f r = subst (λ (v : WorkerView). HasRows v.state) (sym f.same) r
-
-pub untold_room : (a b : WorkerView) → StaysUntold a b → HasRoom a → HasRoom b
-untold_room a b f r = subst HasRoom (sym f.same) r
-
-pub untold_news : (a b c : WorkerView) → StaysUntold a b → length c.notes ≡ length b.notes + 1 → length a.notes < length c.notes
-untold_news a b c f n = let e = ap (λ (v : WorkerView). length v.notes) f.same in omega (arith, e, n)

@@ -1,6 +1,4 @@
 use Rattle.std.proofs.Common.{◌∙◌}
-use Rattle.turnstile.specs.Passes.{made_with}
-use Rattle.divide_merge.specs.Reached.{divide_reached}
 use Rattle.divide_merge.proofs.Following.{Follows-trans}
 use Rattle.divide_workers.proofs.Waits.{name_stays}
 use Rattle.divide_workers.proofs.waiting.advance_merge.Goals as goal

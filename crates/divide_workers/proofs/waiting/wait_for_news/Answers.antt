@@ -1,4 +1,4 @@
-use Rattle.std.proofs.Common.{◌+◌, refl, arith}
+use Rattle.std.proofs.Common.{◌+◌, arith}
 use Rattle.turnstile.specs.Passes.{made_with}
 use Rattle.divide_merge.specs.Reached.{divide_name}
 use Rattle.divide_workers.proofs.Working.{works_itself, works_again}

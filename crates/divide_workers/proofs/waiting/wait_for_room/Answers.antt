@@ -2,7 +2,7 @@ use Rattle.std.proofs.Common.{◌+◌, arith}
 use Rattle.turnstile.specs.Passes.{made_with}
 use Rattle.divide_merge.specs.Reached.{divide_name}
 use Rattle.divide_workers.proofs.Working.{works_itself, works_again}
-use Rattle.divide_workers.proofs.Waits.{gives_up, refused_itself, stays_refused, pushes_later}
+use Rattle.divide_workers.proofs.Waits.{gives_up, refused_itself, stays_refused}
 use Rattle.divide_workers.proofs.waiting.wait_for_room.Goals as goal
 
 pub loop-turn-init : goal.loop-turn-init

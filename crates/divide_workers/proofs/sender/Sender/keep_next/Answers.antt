@@ -1,5 +1,4 @@
 use Rattle.std.proofs.Common.{inr, refl}
-use Rattle.divide_workers.specs.Fronts.{plain_front}
 use Rattle.divide_workers.proofs.Fields.{hands_itself, hands_again, frontier_again}
 use Rattle.divide_workers.proofs.Handing.{hands_fewer}
 use Rattle.divide_workers.proofs.sender.Sender.keep_next.Goals as goal
