@@ -15,3 +15,6 @@ pub mod Meeting
 pub mod Shares
 pub mod TeamSteps
 pub mod Settling
+pub mod Waits
+pub mod Pushing
+pub mod Handing
