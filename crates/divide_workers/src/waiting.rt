@@ -41,10 +41,12 @@ pub(crate) fn wait_for_room<R: CoeffRing, M: Monomial>(
     ensures pass { IsPassOf shared.now.turnstile.now pass.new × IsOutside pass.new }
     ensures entries { entries pass.old ≤ entries pass.new }
     ensures busy { busy pass.old ≤ busy pass.new }
+    ensures works { Works sender.old sender.new }
     ensures sent { IfOk result (λ _. Pushes sender.old sender.new) }
     ensures refused { IfErr result (λ _. StaysRefused sender.old sender.new) }
     ensures receipt { IfErr result (λ r. IsReceipt (divide_name (made_with shared.now.turnstile.now)) patience pass.old pass.new r) }
 {
+    sender.whole();
     let mut receipt = None;
     for turn in 0..MOST_TURNS {
         advance_merge(shared, pass, &mut receipt, steps);
@@ -87,6 +89,7 @@ pub(crate) fn wait_for_news<R: CoeffRing, M: Monomial>(
     ensures untold { IfErr result (λ _. StaysUntold sender.old sender.new) }
     ensures receipt { IfErr result (λ r. IsReceipt (divide_name (made_with shared.now.turnstile.now)) patience pass.old pass.new r) }
 {
+    sender.whole();
     let mut receipt = None;
     for turn in 0..MOST_TURNS {
         advance_merge(shared, pass, &mut receipt, steps);
