@@ -11,3 +11,4 @@ pub mod Teams
 pub mod Comparing
 pub mod Fields
 pub mod Waits
+pub mod Handing

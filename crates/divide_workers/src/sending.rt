@@ -71,6 +71,7 @@ impl<R: CoeffRing, M: Monomial> Sender<'_, R, M> {
         ensures hands { HandsOut self.old self.new }
         ensures frontier { IsFrontier self.new (plain_front M.vector frontier) }
         ensures kept { IsTrue result → self.new.state.kept ≢ [] }
+        ensures fewer { IsTrue result → self.old.state.kept ≡ [] → length self.new.state.unread < length self.old.state.unread }
         ensures held { result ≡ false → HoldsBack self.new }
     {
         self.whole();
