@@ -11,4 +11,5 @@ pub mod Teams
 pub mod Comparing
 pub mod Fields
 pub mod Waits
+pub mod Pushing
 pub mod Handing

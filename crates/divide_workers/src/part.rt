@@ -193,6 +193,7 @@ impl<'a, R: CoeffRing, M: Monomial> Part<'a, R, M> {
         ensures refused { IfErr result (λ _. IsRefused (sender_of self.new.sender) × WasRefused (sender_of self.old.sender) (sender_of self.new.sender)) }
         ensures receipt { IfErr result (λ r. IsReceipt (divide_name (made_with shared.now.turnstile.now)) patience pass.old pass.new r) }
     {
+        self.whole();
         let frontier = self.sender.frontier();
         while self.sender.keep_next(frontier, steps) {
             self.push(shared, ring, pass, steps)?;
