@@ -10,3 +10,6 @@ pub mod Bounding
 pub mod Teams
 pub mod Comparing
 pub mod Fields
+pub mod Changing
+pub mod NewRow
+pub mod Finishing
