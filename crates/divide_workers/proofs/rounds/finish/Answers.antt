@@ -7,9 +7,9 @@ use Rattle.divide_workers.proofs.rounds.finish.Goals as goal
 pub round-requires-clause-team : goal.round-requires-clause-team
 round-requires-clause-team g c κs within =
     let e = c.reserve.ensures in
-    team_still c.loop-merge.merge c.reserve.new.self e.run e.row (map (λ w. w.worker.sender) c.loop-merge.workers) e.rings c.loop-merge.invariant.team
+    team_still c.loop-row.merge c.reserve.new.self e.run e.row (map (λ w. w.worker.sender) c.loop-row.workers) e.rings c.loop-row.invariant.team
 
 pub round-requires-clause-place : goal.round-requires-clause-place
 round-requires-clause-place g c κs within =
     let e = c.reserve.ensures in
-    place_still c.loop-merge.merge c.reserve.new.self e.run e.row c.loop-merge.invariant.place
+    place_still c.loop-row.merge c.reserve.new.self e.run e.row c.loop-row.invariant.place

@@ -4,8 +4,8 @@ use Rattle.divide_merge.specs.Names.{row_identity}
 use Rattle.divide_workers.specs.Rounds.{IsTeam, HasPlace, rounds_bound}
 use Rattle.divide_workers.proofs.rounds.finish.Given as goal
 
-abbrev pub invariant-loop-merge : goal.invariant-loop-merge
-invariant-loop-merge g l = record {
+abbrev pub invariant-loop-row : goal.invariant-loop-row
+invariant-loop-row g l = record {
   rings : l.merge.rings ≡ l.initial.merge.rings;
   row : l.merge.row ≡ row_identity l.row;
   team : IsTeam l.merge (map (λ w. w.worker.sender) l.workers);
@@ -14,5 +14,5 @@ invariant-loop-merge g l = record {
   rounds : l.rounds ≤ progress l.merge.run;
 }
 
-abbrev pub decreases-loop-merge : goal.decreases-loop-merge
-decreases-loop-merge g l = rounds_bound l.initial.merge.run.state.division l.initial.merge.run.state.workers - progress l.merge.run
+abbrev pub decreases-loop-row : goal.decreases-loop-row
+decreases-loop-row g l = rounds_bound l.initial.merge.run.state.division l.initial.merge.run.state.workers - progress l.merge.run
