@@ -38,7 +38,7 @@ known_few m v w p few =
     let l = w.whole.row_start in omega (arith, more, t, l, few)
 
 -- the merge has taken no more notes of a worker than this may send for the quotient terms found
-all_fit : (lim : ℕ) (m : DivideView) (team : List WorkerView) (z : RingName) (y : WorkerView) → IsSound lim m → IsTeam m team → ((k : ℕ) → k < length team → IsWorking lim (slice_index_or team k y)) → (w : ℕ) → w < m.run.state.workers → NotesFit m.run.state w
+pub all_fit : (lim : ℕ) (m : DivideView) (team : List WorkerView) (z : RingName) (y : WorkerView) → IsSound lim m → IsTeam m team → ((k : ℕ) → k < length team → IsWorking lim (slice_index_or team k y)) → (w : ℕ) → w < m.run.state.workers → NotesFit m.run.state w
 all_fit lim m team z y s t working w l =
     let k : w < length team = let a = t.members.long in let b = s.rings_count in omega (arith, a, b, l) in
     let v = slice_index_or team w y in

@@ -18,3 +18,6 @@ pub mod Settling
 pub mod Waits
 pub mod Pushing
 pub mod Handing
+pub mod Changing
+pub mod NewRow
+pub mod Finishing

@@ -146,26 +146,28 @@ module _ (a e f : DivideView) (v0 v1 v2 v3 : WorkerView) (p : Passes a e f v0 v1
   up_to_date = record { learned = learned; few = few; room = room; fronted = fronted }
 
 -- ---- a new row
--- a worker that was up to date is so with the merge's new row
-pub catches_up : (m n : DivideView) (u v : WorkerView) → RunWhole m.run → n.run ≡ record m.run { state = with_new_row m.run.state; notes = [] } → IsUpToDate m u → IsPrefix u.notes m.run.notes → u.state.division ≡ m.run.state.division
+-- a worker that goes on with a new row keeps its rows
+pub caught_rows : (row : RowIdentity) (q : ℕ) (front : Option (List ℕ)) (u v : WorkerView) → CatchesUp row q front u v → worker_rows u.state ≡ worker_rows v.state
+unfolding worker_rows
+caught_rows row q front u v c = sym (λ j. worker_rows record { division = c.division j; workers = c.workers j; worker = (c.sender j).worker; known = []; unread = []; kept = []; sent = [] })
+
+-- a worker that knew no more than was found is up to date with the merge's new row
+pub catches_up : (m n : DivideView) (u v : WorkerView) → RunWhole m.run → n.run ≡ record m.run { state = with_new_row m.run.state; notes = [] } → length u.state.known ≤ m.run.state.start + length (row_terms u.notes) → IsPrefix u.notes m.run.notes → u.state.division ≡ m.run.state.division
     → HasRoom v → CatchesUp n.row (length m.run.state.q) m.run.state.front u v → IsUpToDate n v
-unfolding with_new_row row_terms worker_rows
+unfolding with_new_row row_terms
 catches_up m n u v w run old notes mine room c =
     let start : n.run.state.start ≡ length m.run.state.q = ap (λ (r : DivideRun). r.state.start) run in
     let front : n.run.state.front ≡ m.run.state.front = ap (λ (r : DivideRun). r.state.front) run in
     let division : n.run.state.division ≡ m.run.state.division = ap (λ (r : DivideRun). r.state.division) run in
     let none : length (row_terms v.notes) ≡ 0 = ap (λ x. length (row_terms x)) c.notes in
-    let few = known_few m u w notes old.few in
-    let same : worker_rows u.state ≡ worker_rows v.state = rows_alike in record {
+    let few = known_few m u w notes old in
+    let same : worker_rows u.state ≡ worker_rows v.state = caught_rows n.row (length m.run.state.q) m.run.state.front u v c in record {
       learned = λ r. let l = c.learned (λ e. r (sym same ∙ e)) in omega (arith, l, few, start, none);
       few = pick few start none (worker_rows u.state) refl;
       room = room;
       fronted = λ r e. subst (λ (x : Option (List ℕ)). IsLowered n.run.state.division.ord (front_mono v.front) x) (sym front) (subst (λ (d : Division). IsLowered d.ord (front_mono v.front) m.run.state.front) (mine ∙ sym division) (c.lowered (λ e. r (sym same ∙ e))));
     }
   where
-    rows_alike : worker_rows u.state ≡ worker_rows v.state
-    rows_alike = sym (λ j. worker_rows record { division = c.division j; workers = c.workers j; worker = (c.sender j).worker; known = []; unread = []; kept = []; sent = [] })
-
     pick : length u.state.known ≤ length m.run.state.q → n.run.state.start ≡ length m.run.state.q → length (row_terms v.notes) ≡ 0 → (rows : List Term) → worker_rows u.state ≡ rows → length v.state.known ≤ n.run.state.start + length (row_terms v.notes)
     pick few start none [] e = let k = ap (λ (L : List Term). length L) (c.idle (λ r. r e)) in omega (arith, k, few, start, none)
     pick few start none (t ∷ rows) e = let l = c.learned (λ z. cc (sym e ∙ z)) in omega (arith, l, few, start, none)

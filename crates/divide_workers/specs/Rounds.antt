@@ -9,7 +9,7 @@ use Rattle.term_ring.specs.Sending.{Sends, HasMet, IsRefused}
 use Rattle.dividing_rounds.specs.Stalls.{IsLowered}
 use Rattle.dividing_rounds.specs.Rounds.{progress, most_rounds}
 use Rattle.divide_merge.specs.Names.{RowIdentity}
-use Rattle.divide_merge.specs.Verdicts.{Verdict, RowIsFull, IsVerdict, kept_of}
+use Rattle.divide_merge.specs.Verdicts.{Verdict, Finishes, HasNone, PassesNorm, PassesCount, IsBlocked, RowIsFull, OutIsFull, IsVerdict, kept_of}
 use Rattle.divide_merge.specs.Merges.{DivideView, IsSound, IsCause, taken_of, free_places}
 use Rattle.divide_merge.specs.Reached.{divide_reached, Follows}
 use Rattle.divide_workers.specs.Fronts.{front_mono}
@@ -17,6 +17,8 @@ use Rattle.divide_workers.specs.Paying.{HasRows, IsMarked}
 use Rattle.divide_workers.specs.Views.{WorkerView, sender_of}
 use Rattle.divide_workers.specs.Working.{IsWorking, HasRoom}
 use Rattle.divide_workers.specs.Steps.{Works, HoldsBack, CatchesUp}
+use Rattle.divide_workers.specs.declared.rounds.Next.{Next}
+use Rattle.divide_workers.specs.declared.rounds.Next.TheVariants.{Over, Row, Round}
 
 -- the worker advanced until its ring was full, or it waited and its last look found nothing, or it has no rows
 pub record Moves (a b : WorkerView) : Type 0 where
@@ -104,6 +106,15 @@ pub record IsTeam (m : DivideView) (team : List WorkerView) : Type 0 where
   pub told : IsTold m team
   pub current : (k : ℕ) (d : WorkerView) → k < length team → IsUpToDate m (slice_index_or team k d)
 
+-- it has room for the terms that it misses of so many, and for so many more; nothing else of it changed
+pub record MakesRoom (q places : ℕ) (a b : WorkerView) : Type 0 where
+  pub same : b ≡ record a { spare = b.spare }
+  pub room : HasRows a.state → q + places ≤ length a.state.known + b.spare
+
+pub record AllMakeRoom (q places : ℕ) (a b : List WorkerView) : Type 0 where
+  pub long : length b ≡ length a
+  pub each : (k : ℕ) (d : WorkerView) → k < length a → MakesRoom q places (slice_index_or a k d) (slice_index_or b k d)
+
 -- each worker goes on with this row
 pub record AllCatchUp (row : RowIdentity) (q : ℕ) (front : Option (List ℕ)) (a b : List WorkerView) : Type 0 where
   pub long : length b ≡ length a
@@ -118,6 +129,16 @@ pub record IsRound (a b : DivideView) (x : Verdict) : Type 0 where
   pub answer : b.answer ≡ kept_of x
   pub cause : IsVerdict b.run.state (free_places b) b.spare x
   pub farther : b.run.over ≡ false → progress a.run < progress b.run
+
+-- what follows a round in whose end the merge gave this answer
+abbrev pub next_of : Verdict → Next
+next_of Finishes = Over
+next_of (HasNone x) = Over
+next_of (PassesNorm t) = Over
+next_of (PassesCount t) = Over
+next_of (IsBlocked w) = Round
+next_of RowIsFull = Row
+next_of OutIsFull = Round
 
 -- ---- the rounds of a division
 -- 1 + 4*P + n + W*(n + 1), where n is the number of terms of q* and P that of f plus n times that of g less one
