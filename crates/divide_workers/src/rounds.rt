@@ -103,7 +103,9 @@ fn catch_up_all<R: CoeffRing, M: Monomial>(
         let Some(reader) = readers.pop() else {
             unreachable!()
         };
-        workers[worker].worker.catch_up(merge.quotient(), front, reader);
+        workers[worker]
+            .worker
+            .catch_up(merge.quotient(), front, reader);
     }
 }
 
