@@ -1,9 +1,8 @@
 -- How a round follows the one before it, and how many rounds there are.
-use Rattle.std.proofs.Common.{◌≡◌, ◌≢◌, ◌⊎◌, inl, inr, ℕ, ◌+◌, ◌-◌, ◌*◌, ◌<◌, ◌≤◌, false, List, [], ◌∷◌, ◌++◌, All, length, get_or, Some, refl, sym, ap, ◌∙◌, subst, arith, length-append}
+use Rattle.std.proofs.Common.{◌≡◌, ◌≢◌, inl, inr, ℕ, ◌+◌, ◌-◌, ◌*◌, ◌<◌, ◌≤◌, false, List, [], ◌∷◌, All, length, get_or, Some, refl, sym, ap, ◌∙◌, subst, arith, length-append}
 use Rattle.std.specs.Option.{is_some}
 use Rattle.std.proofs.Math.Nat.{mul-le-mul}
 use mathlib.Core.List.{IsPrefix}
-use Rattle.sdmp_laws.specs.Poly.{Term}
 use Rattle.sdmp_laws.specs.Division.{Division}
 use Rattle.sdmp_laws.specs.LongDivision.{quotient_list}
 use Rattle.whole_laws.specs.Wholes.{notes_of}
@@ -20,7 +19,6 @@ use Rattle.divide_workers.specs.Fronts.{front_mono}
 use Rattle.divide_workers.specs.Views.{WorkerView}
 use Rattle.divide_workers.specs.Working.{IsWorking}
 use Rattle.divide_workers.specs.Rounds.{AreMembers, IsTeam, HasPlace, IsRound, next_of, rounds_bound}
-use Rattle.divide_workers.specs.declared.rounds.Next.{Next}
 use Rattle.divide_workers.specs.declared.rounds.Next.TheVariants.{Over, Row, Round}
 use Rattle.divide_workers.proofs.Bounding.{all_fit}
 
@@ -127,7 +125,7 @@ progress_below lim m team s t working =
     first_of (v ∷ team) l = v
 
 -- merges of the same rings make one division with as many workers
-pub same_division : (lim : ℕ) (a b : DivideView) → IsSound lim a → IsSound lim b → b.rings ≡ a.rings → b.run.state.division ≡ a.run.state.division
+same_division : (lim : ℕ) (a b : DivideView) → IsSound lim a → IsSound lim b → b.rings ≡ a.rings → b.run.state.division ≡ a.run.state.division
 same_division lim a b s t e = t.division ∙ ap first_division e ∙ sym s.division
 
 same_bound : (lim : ℕ) (a b : DivideView) → IsSound lim a → IsSound lim b → b.rings ≡ a.rings → rounds_bound b.run.state.division b.run.state.workers ≡ rounds_bound a.run.state.division a.run.state.workers

@@ -21,7 +21,7 @@ use Rattle.divide_workers.specs.Paying.{HasRows}
 use Rattle.divide_workers.specs.Views.{WorkerView, sender_of}
 use Rattle.divide_workers.specs.Working.{IsWorking, HasRoom}
 use Rattle.divide_workers.specs.Steps.{IsBegun, CatchesUp}
-use Rattle.divide_workers.specs.Rounds.{IsMember, AreMembers, HasHeard, IsUpToDate, IsTeam, MakesRoom, AllMakeRoom, AllCatchUp}
+use Rattle.divide_workers.specs.Rounds.{IsMember, HasHeard, IsUpToDate, IsTeam, AllMakeRoom, AllCatchUp}
 use Rattle.divide_workers.proofs.Hearing.{its_division}
 use Rattle.divide_workers.proofs.Bounding.{known_few}
 use Rattle.divide_workers.proofs.Teams.{caught_rows, catches_up}

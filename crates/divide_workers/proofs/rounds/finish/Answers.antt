@@ -1,4 +1,4 @@
-use Rattle.std.proofs.Common.{◌≡◌, ℕ, ◌<◌, ◌≤◌, map, sym, ap, ◌∙◌, subst, arith}
+use Rattle.std.proofs.Common.{ℕ, ◌<◌, ◌≤◌, map, sym, ap, ◌∙◌, subst, arith}
 use Rattle.dividing_rounds.specs.Runs.{DivideRun}
 use Rattle.dividing_rounds.specs.Rounds.{progress}
 use Rattle.divide_merge.specs.Names.{row_identity}
@@ -6,7 +6,7 @@ use Rattle.divide_merge.specs.Merges.{DivideView}
 use Rattle.divide_workers.specs.Working.{IsWorking}
 use Rattle.divide_workers.specs.Rounds.{IsTeam, HasPlace}
 use Rattle.divide_workers.proofs.Changing.{each_has}
-use Rattle.divide_workers.proofs.Finishing.{team_still, place_still, over_after, place_after, farther_after, row_not_over, round_not_over, place_new, progress_new, same_division, progress_within}
+use Rattle.divide_workers.proofs.Finishing.{team_still, place_still, over_after, place_after, farther_after, row_not_over, round_not_over, place_new, progress_new, progress_within}
 use Rattle.divide_workers.proofs.rounds.finish.Goals.{in-Row+in_ok-row-in-Row, in-Round}
 use Rattle.divide_workers.proofs.rounds.finish.Goals as goal
 

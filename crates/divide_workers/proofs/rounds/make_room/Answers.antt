@@ -1,4 +1,4 @@
-use Rattle.std.proofs.Common.{refl, map, arith}
+use Rattle.std.proofs.Common.{refl, arith}
 use Rattle.std.proofs.lemmas.List.{length-map}
 use Rattle.divide_workers.specs.Rounds.{MakesRoom}
 use Rattle.divide_workers.proofs.Changing.{changed_here}
