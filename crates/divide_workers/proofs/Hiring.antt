@@ -20,15 +20,16 @@ use Rattle.dividing_rounds.specs.Runs.{DivideRun, run_start}
 use Rattle.dividing_rounds.specs.Rounds.{progress}
 use Rattle.dividing_rounds.specs.Stalls.{IsLowered}
 use Rattle.term_ring.specs.Spelling.{notes_of}
-use Rattle.term_ring.specs.Ends.{sent, IsReaderOf, IsWriterOf}
+use Rattle.term_ring.specs.Ends.{sent, IsReaderOf}
 use Rattle.term_ring.specs.declared.ring.Ring.{Ring}
 use Rattle.term_ring.specs.declared.ring.Reader.{Reader}
 use Rattle.term_ring.specs.declared.ring.Writer.{Writer}
 use Rattle.term_ring.specs.Names.{RingName, ring_name, reader_name, writer_name}
-use Rattle.quotient_row.specs.Ends.{known}
+use Rattle.quotient_row.specs.Ends.{known, IsReaderOf as IsRowReaderOf}
+use Rattle.quotient_row.specs.declared.row.Row.{Row}
 use Rattle.quotient_row.specs.Spelling.{notes_of as row_notes_of}
 use Rattle.quotient_row.specs.declared.row.RowReader.{RowReader}
-use Rattle.divide_merge.specs.Names.{RowIdentity, reader_row, HasScripts, script_division, first_division}
+use Rattle.divide_merge.specs.Names.{RowIdentity, row_identity, reader_row, HasScripts, script_division, first_division}
 use Rattle.divide_merge.specs.Merges.{DivideView, taken_of, IsSound}
 use Rattle.divide_workers.specs.Fronts.{PlainFront, front_mono}
 use Rattle.divide_workers.specs.Views.{WorkerView, script_workers}
@@ -66,8 +67,8 @@ module _ {X M E : Type 0} where
   pub name_of_reader : (ring : Ring X M E) (r : Reader X M E) → IsReaderOf ring r → reader_name r ≡ ring_name ring
   name_of_reader ring r h = λ i. record { table = h.1 i; script = h.2 i; places = h.3 i }
 
-  pub name_of_writer : (ring : Ring X M E) (w : Writer X M E) → IsWriterOf ring w → writer_name w ≡ ring_name ring
-  name_of_writer ring w h = λ i. record { table = h.1 i; script = h.2 i; places = h.3 i }
+  pub row_of_reader : (row : Row X M E) (r : RowReader X M E) → IsRowReaderOf row r → reader_row r ≡ row_identity row
+  row_of_reader row r h = λ i. record { table = h.1 i; name = h.2 i; places = h.3 i }
 
 -- the ring has the script of the worker k of W, and the worker is new and reads this row
 pub record IsHired (d : Division) (W : ℕ) (row : RowIdentity) (k : ℕ) (name : RingName) (v : WorkerView) : Type 0 where
@@ -121,11 +122,27 @@ module _ {A B : Type 0} (xs later : List A) (a : A) (ys after : List B) (b : B) 
 
 -- ---- all workers
 module _ (d : Division) (W : ℕ) (row : RowIdentity) (names : List RingName) (team : List WorkerView) (h : AreHired d W row names team W) where
-  -- a name and a view stand in for those that a list lacks
-  pub hired_scripts : WorkerView → HasScripts d names
-  hired_scripts y w a l =
+  -- any view stands for one past the end
+  some_view : RingName → WorkerView
+  some_view a =
+      record {
+        state = record { division = d; workers = W; worker = 0; known = []; unread = []; kept = []; sent = [] };
+        ring = a;
+        head = 0;
+        full_looks = 0;
+        row = row;
+        notes = [];
+        count = 0;
+        loads = 0;
+        told = [];
+        front = None;
+        spare = 0;
+      }
+
+  pub hired_scripts : HasScripts d names
+  hired_scripts w a l =
       subst (λ (n : ℕ). (get_or names w a).script ≡ QuotientScript d n w) (sym h.count)
-      (h.each w a y (let c = h.count in omega (arith, c, l))).script
+      (h.each w a (some_view a) (let c = h.count in omega (arith, c, l))).script
 
   pub hired_members : AreMembers names row team
   hired_members = record {
