@@ -1,5 +1,5 @@
 -- A team that has sent nothing, and its merge.
-use Rattle.std.proofs.Common.{◌≡◌, ◌≢◌, ℕ, zero, suc, ◌+◌, ◌<◌, ◌≤◌, List, [], ◌∷◌, ◌++◌, length, drop, get_or, slice_index_or, map, replicate, Option, Some, None, MatchOption, Bool, true, false, true≢false, ℤ, All, refl, sym, ap, ◌∙◌, subst, arith, length-append}
+use Rattle.std.proofs.Common.{◌≡◌, ◌≢◌, ◌⊎◌, inl, ℕ, zero, suc, ◌+◌, ◌<◌, ◌≤◌, List, [], ◌∷◌, ◌++◌, length, drop, get_or, slice_index_or, map, replicate, Option, Some, None, MatchOption, Bool, true, false, true≢false, ℤ, All, refl, sym, ap, ◌∙◌, subst, arith, length-append}
 use Rattle.std.proofs.lemmas.List.{map-append, length-map}
 use Rattle.std.proofs.Math.ListN.{get_or-append}
 use Rattle.std.proofs.lemmas.List.Folds.{sum_by-replicate}
@@ -34,7 +34,7 @@ use Rattle.divide_merge.specs.Merges.{DivideView, taken_of, IsSound}
 use Rattle.divide_workers.specs.Fronts.{PlainFront, front_mono}
 use Rattle.divide_workers.specs.Views.{WorkerView, script_workers}
 use Rattle.divide_workers.specs.Inside.{view_of}
-use Rattle.divide_workers.specs.Rounds.{IsMember, AreMembers, AreRead, IsFresh, HasHeard, IsUpToDate, IsTeam}
+use Rattle.divide_workers.specs.Rounds.{IsMember, AreMembers, AreRead, IsFresh, HasHeard, IsUpToDate, IsTeam, HasPlace}
 
 -- ---- one worker
 pub its_rows : (g : List Term) (W w : ℕ) → every W w 1 (drop 1 g) ≡ divisor_rows g W w
@@ -183,7 +183,7 @@ module _ (m : DivideView) (d : Division) (W : ℕ) (start : m.run ≡ run_start 
   unfolding run_start divide_start
   its_workers = ap (λ (r : DivideRun). r.state.workers) start
 
-  pub no_notes : m.run.notes ≡ []
+  no_notes : m.run.notes ≡ []
   unfolding run_start
   no_notes = ap (λ (r : DivideRun). r.notes) start
 
@@ -221,12 +221,18 @@ module _ (m : DivideView) (d : Division) (W : ℕ) (start : m.run ≡ run_start 
         fronted = λ r e. subst (λ (x : Option (List ℕ)). IsLowered m.run.state.division.ord (front_mono v.front) x) (sym no_front) tt;
       }
 
-  pub first_team : (team : List WorkerView) → AreMembers m.rings m.row team → All IsFresh team → IsTeam m team
+  first_team : (team : List WorkerView) → AreMembers m.rings m.row team → All IsFresh team → IsTeam m team
   first_team team members fresh = record {
     members = members;
     told = λ k y l. heard (slice_index_or team k y) (fresh k y l);
     current = λ k y l. up_to_date (slice_index_or team k y) (fresh k y l);
   }
+
+  pub team_of_merge : (team : List WorkerView) (names : List RingName) (row : RowIdentity) → m.rings ≡ names → m.row ≡ row → AreMembers names row team → All IsFresh team → IsTeam m team
+  team_of_merge team names row e f members fresh = first_team team (subst (λ (r : List RingName). AreMembers r m.row team) (sym e) (subst (λ (r : RowIdentity). AreMembers names r team) (sym f) members)) fresh
+
+  pub has_place : 0 < m.row.places → HasPlace m
+  has_place some = inl (let n = ap (λ ns. length ns) no_notes in omega (arith, n, some))
 
 -- ---- the division of a merge of these rings
 first_is : (d : Division) (names : List RingName) → HasScripts d names → 0 < length names → first_division names ≡ d
@@ -236,6 +242,9 @@ first_is d (a ∷ names) h l = ap script_division (h 0 a l)
 module _ {d : Division} {W : ℕ} {names readers : List RingName} (r : AreRead d W names readers) where
   pub readers_scripts : HasScripts d readers
   readers_scripts = subst (HasScripts d) (sym r.same) r.scripts
+
+  pub readers_count : {A : Type 0} (f : A → RingName) (xs : List A) → map f xs ≡ readers → length xs ≡ W
+  readers_count f xs e = sym (length-map xs f) ∙ ap (λ (x : List RingName). length x) (e ∙ r.same) ∙ r.count
 
   pub division_of_merge : (lim : ℕ) (v : DivideView) → 0 < W → IsSound lim v → v.rings ≡ readers → v.run.state.division ≡ d
   division_of_merge lim v some s e =

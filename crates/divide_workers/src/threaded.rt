@@ -1,9 +1,9 @@
 //! The division of two polynomials by workers.
 
-ghost use Rattle.std.specs.Prelude.{◌≡◌, ◌≢◌, ◌+◌, ◌^◌, ◌<◌, ◌≤◌, ◌⊎◌, ◌↔◌, length, Some, IfOk, IsTrue, MatchResult};
+ghost use Rattle.std.specs.Prelude.{◌≡◌, ◌≢◌, ◌+◌, ◌^◌, ◌<◌, ◌≤◌, ◌⊎◌, ◌↔◌, [], length, Some, IfOk, IsTrue, MatchResult};
 ghost use Rattle.sdmp_laws.specs.LongDivision.{quotient_list};
 ghost use Rattle.sdmp_laws.specs.Ring.{IsUnit};
-ghost use Rattle.sdmp_laws.specs.Division.{IsAccepted};
+ghost use Rattle.sdmp_laws.specs.Poly.{lc};
 ghost use Rattle.division_laws.specs.Outcome.{division_of};
 ghost use Rattle.divide_core.specs.Answer.{IsAnswer, IsRefusal};
 ghost use Rattle.divide_merge.specs.Merges.{IsDone, IsSound, verdict_of};
@@ -60,7 +60,8 @@ fn divided<T: Threads + Sync, R: CoeffRing, M: Monomial, G: Gate>(
     gate: &G,
 ) -> Result<Divided<R, M>, DivideFault>
     requires moduli { job.now.f.now.modulus ≡ job.now.g.now.modulus }
-    requires accepted { IsAccepted (division_of job.now.mode M.order M.VARS job.now.f.now job.now.g.now) }
+    requires nonzero { job.now.g.now.list ≢ [] }
+    requires unit { (((job.now.mode ≡ Mode.Remainder) ⊎ (job.now.f.now.modulus ≢ 0)) × (IsUnit job.now.f.now.modulus (lc job.now.g.now.list) → ⊥)) → ⊥ }
     requires workers { 0 < workers }
     requires places { 0 < places }
     ensures answer { MatchResult
