@@ -6,7 +6,7 @@ ghost use Rattle.term_ring.specs.Ends.{IsReaderOf, script_in, places_of, taken};
 ghost use Rattle.term_ring.specs.Names.{ring_name, reader_name, IsReading};
 ghost use Rattle.quotient_row.specs.Ends.{IsNew, published};
 ghost use Rattle.divide_merge.specs.Names.{IsFit, IsLooking, IsPublishing, row_identity, writer_row, reader_row};
-ghost use Rattle.divide_workers.specs.Rounds.{IsMember, AreMembers, AreRead, IsFresh};
+ghost use Rattle.divide_workers.specs.Rounds.{AreMembers, AreRead, IsFresh};
 
 use crate::part::{Part, Worker};
 use canonical_terms::Poly;

@@ -20,6 +20,6 @@ returns-clause-fresh g c =
     let rows = its_part c.if-has_rows-2.rows c.in_ok-rows.rows _ c.args.workers _ c.args.worker _ _ c.in_ok-rows.ensures (ap (λ (q : QuotientState). q.rows) same) (ap (λ (x : Script). (script_division x).g) script) (ap script_workers script) in
     begins_fresh g.M.Monomial.vector g.R.CoeffRing.value c.args.worker c.if-has_rows-2.rows c.in_ok-ring.writer c.args.reader c.new-3.result.sender c.new-3.ensures (ap (λ (q : QuotientState). q.learned) same ∙ ap (λ (q : QuotientState). q.learned) c.in_ok-rows.ensures) c.in_ok-ring.ensures.sent c.requires.nothing.0 rows
     (elim c.if-has_rows-2.branch [
-      then-has_rows-2+in_ok-reserve w ↦ (λ r. subst (λ n. n ≤ c.if-has_rows-2.rows.spare) (sym c.requires.row_places) (subst (λ (q : QuotientState). c.args.places ≤ q.spare) (sym w.rows-is) w.in_ok-reserve.ensures.room))
-    | else-has_rows-2 w ↦ (λ r. absurd (r (ap (λ (q : QuotientState). q.rows) same ∙ none_first c.first.result c.is_some-has_rows.result c.in_ok-rows.rows.rows _ c.first.ensures c.is_some-has_rows.ensures w.if-has_rows-2.false)))
+      | then-has_rows-2+in_ok-reserve w ↦ (λ r. subst (λ n. n ≤ c.if-has_rows-2.rows.spare) (sym c.requires.row_places) (subst (λ (q : QuotientState). c.args.places ≤ q.spare) (sym w.rows-is) w.in_ok-reserve.ensures.room))
+      | else-has_rows-2 w ↦ (λ r. absurd (r (ap (λ (q : QuotientState). q.rows) same ∙ none_first c.first.result c.is_some-has_rows.result c.in_ok-rows.rows.rows _ c.first.ensures c.is_some-has_rows.ensures w.if-has_rows-2.false)))
     ])

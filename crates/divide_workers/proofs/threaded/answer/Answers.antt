@@ -42,21 +42,21 @@ pub returns-clause-answer : goal.returns-clause-answer
 returns-clause-answer g c =
     let m = c.args.finished.merge in
     elim c.match-answer.branch [
-      in-Finished w ↦
+      | in-Finished w ↦
           (let cause = last_cause g.M.Monomial.vector g.R.CoeffRing.value g.M.Monomial.LIM m c.requires.sound c.args.finished.last.answer answer.Finished c.requires.answer (sym w.in-Finished.is ∙ c.answer.ensures) in
           elim w.match-mode.branch [
-            in-Exact w' ↦
+            | in-Exact w' ↦
                 subst (λ a. IsAnswer m.run.state.division a) (sym (w.answer-is ∙ w'.answer-is))
                 (w.finish-q.ensures.quotient_modulus, subst (λ (L : List Term). IsOutcome m.run.state.division (HasQuotient L)) (sym w.finish-q.ensures.quotient) (gives_quotient g.M.Monomial.LIM m c.requires.sound (free_places m) m.spare cause.1 (c.requires.mode ∙ w'.in-Exact.is)))
-          | in-Remainder w' ↦
+            | in-Remainder w' ↦
                 subst (λ a. IsAnswer m.run.state.division a) (sym (w.answer-is ∙ w'.answer-is)) (
                   w.finish-q.ensures.quotient_modulus,
                   w.finish-q.ensures.remainder_modulus,
                   subst (λ (L : List Term). IsOutcome m.run.state.division (HasRemainder L w.finish-q.result.1.list)) (sym w.finish-q.ensures.quotient)
-                  (subst (λ (L : List Term). IsOutcome m.run.state.division (HasRemainder m.run.state.q L)) (sym w.finish-q.ensures.remainder) (gives_remainder g.M.Monomial.LIM m c.requires.sound (free_places m) m.spare cause.1 (c.requires.mode ∙ w'.in-Remainder.is))),
+                      (subst (λ (L : List Term). IsOutcome m.run.state.division (HasRemainder m.run.state.q L)) (sym w.finish-q.ensures.remainder) (gives_remainder g.M.Monomial.LIM m c.requires.sound (free_places m) m.spare cause.1 (c.requires.mode ∙ w'.in-Remainder.is))),
                 )
           ])
-    | in-NoQuotient w ↦
+      | in-NoQuotient w ↦
           (let cause = last_cause g.M.Monomial.vector g.R.CoeffRing.value g.M.Monomial.LIM m c.requires.sound c.args.finished.last.answer (answer.NoQuotient w.in-NoQuotient.at) c.requires.answer (sym w.in-NoQuotient.is ∙ c.answer.ensures) in
           subst (λ a. IsAnswer m.run.state.division a) (sym w.answer-is) (gives_none g.M.Monomial.LIM m c.requires.sound (g.M.Monomial.vector w.in-NoQuotient.at) (free_places m) m.spare cause.1))
     ]
@@ -65,15 +65,15 @@ pub returns-clause-found : goal.returns-clause-found
 returns-clause-found g c =
     let m = c.args.finished.merge in
     elim c.match-answer.branch [
-      in-Finished w ↦ all_found g.M.Monomial.LIM m c.requires.sound (free_places m) m.spare
+      | in-Finished w ↦ all_found g.M.Monomial.LIM m c.requires.sound (free_places m) m.spare
           (last_cause g.M.Monomial.vector g.R.CoeffRing.value g.M.Monomial.LIM m c.requires.sound c.args.finished.last.answer answer.Finished c.requires.answer (sym w.in-Finished.is ∙ c.answer.ensures)).1
-    | in-NoQuotient w ↦ all_found_none g.M.Monomial.LIM m c.requires.sound (g.M.Monomial.vector w.in-NoQuotient.at) (free_places m) m.spare
+      | in-NoQuotient w ↦ all_found_none g.M.Monomial.LIM m c.requires.sound (g.M.Monomial.vector w.in-NoQuotient.at) (free_places m) m.spare
           (last_cause g.M.Monomial.vector g.R.CoeffRing.value g.M.Monomial.LIM m c.requires.sound c.args.finished.last.answer (answer.NoQuotient w.in-NoQuotient.at) c.requires.answer (sym w.in-NoQuotient.is ∙ c.answer.ensures)).1
     ]
 
 pub returns-clause-done : goal.returns-clause-done
 returns-clause-done g c =
     elim c.match-answer.branch [
-      in-Finished w ↦ subst IsDone (sym w.in-Finished.is ∙ c.answer.ensures) tt
-    | in-NoQuotient w ↦ subst IsDone (sym w.in-NoQuotient.is ∙ c.answer.ensures) tt
+      | in-Finished w ↦ subst IsDone (sym w.in-Finished.is ∙ c.answer.ensures) tt
+      | in-NoQuotient w ↦ subst IsDone (sym w.in-NoQuotient.is ∙ c.answer.ensures) tt
     ]

@@ -1,5 +1,4 @@
-use Rattle.std.proofs.Common.{◌≡◌, ◌≢◌, ◌<◌, ◌⊎◌, ℕ, ℤ, length, get_or, true≢false, sym, subst, ◌∙◌}
-use Rattle.std.proofs.lemmas.List.Elements.{All-get_or}
+use Rattle.std.proofs.Common.{◌≡◌, ◌≢◌, ◌<◌, ◌⊎◌, ℕ, ℤ, length, true≢false, sym, subst, ◌∙◌}
 use Rattle.sdmp_laws.specs.Ring.{IsUnit}
 use Rattle.sdmp_laws.specs.Poly.{lc}
 use Rattle.sdmp_laws.specs.declared.Mode.TheVariants.{Remainder}
@@ -11,12 +10,6 @@ use Rattle.divide_workers.proofs.threaded.divide.Goals as goal
 pub returns-then-is_empty-clause-answer : goal.returns-then-is_empty-clause-answer
 unfolding IsOutcome
 returns-then-is_empty-clause-answer g c = nothing_in g.M.Monomial.vector g.R.CoeffRing.value c.terms-divisor.result.now c.args.g.now.list c.is_empty.result c.is_empty.ensures c.if-is_empty.true c.terms-divisor.ensures.view
-
-pub is_refused-requires : goal.is_refused-requires
-is_refused-requires g c =
-    let some : 0 < length c.terms-divisor.result.now = positive_from _ _ c.is_empty.ensures c.if-is_empty.false in
-    subst (λ (p : ℕ). g.R.CoeffRing.belongs p (get_or c.terms-divisor.result.now 0 c.index-divisor-0.result).coef) (sym c.ring.ensures)
-    (All-get_or (λ t. g.R.CoeffRing.belongs c.args.g.now.modulus t.coef) c.terms-divisor.result.now 0 c.index-divisor-0.result some c.terms-divisor.ensures.belongs)
 
 pub returns-then-is_refused-clause-answer : goal.returns-then-is_refused-clause-answer
 unfolding IsOutcome

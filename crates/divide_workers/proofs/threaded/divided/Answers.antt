@@ -78,12 +78,12 @@ returns-clause-rounds g c =
     let e = c.in_ok-finished.finished in
     let same = division_of_merge c.in_ok-rings.ensures.read g.M.Monomial.LIM e.merge c.requires.workers c.whole.ensures.sound (c.in_ok-finished.ensures.rings ∙ c.in_ok-merge.ensures.rings) in
     let first : m.run.state.division ≡ d = its_division m _ _ c.in_ok-merge.ensures.run in
-    let long : vec_len c.in_ok-rings.field-0.readers ≡ length c.in_ok-rings.field-0.readers.items = search rules in
+    let long : vec_len c.in_ok-rings.field-0.readers ≡ length c.in_ok-rings.field-0.readers.items = (let k = c.in_ok-rings.field-0.readers.ok.0 in omega (arith, k)) in
     let count : m.run.state.workers ≡ c.args.workers = its_workers m _ _ c.in_ok-merge.ensures.run ∙ long ∙ readers_count c.in_ok-rings.ensures.read reader_name c.in_ok-rings.field-0.readers.items refl in
     from_both (λ a. a.rounds ≡ e.rounds) (λ _. e.merge.run.state.q ≡ quotient_list e.merge.run.state.division) (λ a. a.rounds ≤ rounds_bound d c.args.workers) c.answer.result
     (λ a p found. subst (λ n. n ≤ rounds_bound d c.args.workers) (sym p)
-      (subst (λ (k : ℕ). e.rounds ≤ rounds_bound d k) count
-      (subst (λ (x : Division). e.rounds ≤ rounds_bound x m.run.state.workers) first (c.in_ok-finished.ensures.rounds (found ∙ ap quotient_list (same ∙ sym first))))))
+    (subst (λ (k : ℕ). e.rounds ≤ rounds_bound d k) count
+    (subst (λ (x : Division). e.rounds ≤ rounds_bound x m.run.state.workers) first (c.in_ok-finished.ensures.rounds (found ∙ ap quotient_list (same ∙ sym first))))))
     c.answer.ensures.rounds c.answer.ensures.found
 
 pub returns-clause-terms : goal.returns-clause-terms
@@ -104,6 +104,6 @@ returns-clause-receipt g c =
     let count = workers_of_merge c.in_ok-rings.ensures.read g.M.Monomial.LIM e.merge c.whole.ensures.sound rings in
     from_both (λ a. a.last ≡ e.last) (λ a. a.last ≡ e.last) (λ a. (a.last.merge.value.run.state.division ≡ d) × (a.last.merge.value.run.state.workers ≡ c.args.workers)) c.answer.result
     (λ a p q.
-      let run = ap (λ l. l.merge.value.run) p ∙ c.in_ok-finished.ensures.receipt in
-      (ap (λ (r : DivideRun). r.state.division) run ∙ same, ap (λ (r : DivideRun). r.state.workers) run ∙ count))
+    let run = ap (λ l. l.merge.value.run) p ∙ c.in_ok-finished.ensures.receipt in
+    (ap (λ (r : DivideRun). r.state.division) run ∙ same, ap (λ (r : DivideRun). r.state.workers) run ∙ count))
     c.answer.ensures.last c.answer.ensures.last
