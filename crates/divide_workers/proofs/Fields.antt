@@ -365,11 +365,10 @@ module _ {X M E : Type 0} (vector : M → List ℕ) (value : E → ℤ) (belongs
   -- the rows may learn it
   pub may_learn_next : (t : TermOf M E) → IsNextTerm V.state (term_of vector value t) → Decreasing ord (rows.learned ++ term_of vector value t ∷ []) × (degree (vector t.mono) + degree (lm rows.divisor) ≤ lim) × (rows.modulus ≡ 0 → norm (rows.learned ++ term_of vector value t ∷ []) * norm rows.divisor ≤ greatest_norm)
   may_learn_next t next =
-      let T = term_of vector value t in (
-        subst (λ (o : Order). Decreasing o (rows.learned ++ T ∷ [])) s.ordered (next_falls lim V T s.working next),
-        subst (λ (G : List Term). degree T.monomial + degree (lm G) ≤ lim) (sym s.divisor) (next_low lim V T s.working next),
-        λ z. subst (λ (G : List Term). norm (rows.learned ++ T ∷ []) * norm G ≤ greatest_norm) (sym s.divisor) (next_fits V T next (s.characteristic ∙ sym s.modulus ∙ z)),
-      )
+      let T = term_of vector value t in
+      (subst (λ (o : Order). Decreasing o (rows.learned ++ T ∷ [])) s.ordered (next_falls lim V T s.working next),
+       subst (λ (G : List Term). degree T.monomial + degree (lm G) ≤ lim) (sym s.divisor) (next_low lim V T s.working next),
+       λ z. subst (λ (G : List Term). norm (rows.learned ++ T ∷ []) * norm G ≤ greatest_norm) (sym s.divisor) (next_fits V T next (s.characteristic ∙ sym s.modulus ∙ z)))
 
   -- it took over a front
   pub lowered : (news : PlainFront) (lower : Front M) → ((later : List Term) → V.state.known ++ later ≡ quotient_list V.state.division → IsAhead V.state.division (Some news) later) → Hears V.state.division V.front news (front_of vector lower)
