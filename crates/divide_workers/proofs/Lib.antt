@@ -8,6 +8,8 @@ pub mod Hearing
 pub mod Rounding
 pub mod Bounding
 pub mod Teams
+pub mod Hiring
+pub mod Answering
 pub mod Comparing
 pub mod Fields
 pub mod Looking

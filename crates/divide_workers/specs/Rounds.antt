@@ -1,5 +1,5 @@
 -- A team of dividing workers around a merge, and a round of it.
-use Rattle.std.specs.Prelude.{◌≡◌, ◌≢◌, ◌⊎◌, ℕ, ◌+◌, ◌<◌, ◌≤◌, false, List, [], length, slice_index_or, Option, IfSome}
+use Rattle.std.specs.Prelude.{◌≡◌, ◌≢◌, ◌⊎◌, ℕ, ◌+◌, ◌<◌, ◌≤◌, false, List, [], length, slice_index_or, Option, None, IfSome}
 use mathlib.Core.List.{IsPrefix}
 use Rattle.sdmp_laws.specs.Division.{Division}
 use Rattle.sdmp_laws.specs.LongDivision.{quotient_list}
@@ -8,7 +8,7 @@ use Rattle.term_ring.specs.Names.{RingName, NoneBelow}
 use Rattle.term_ring.specs.Sending.{Sends, HasMet, IsRefused}
 use Rattle.dividing_rounds.specs.Stalls.{IsLowered}
 use Rattle.dividing_rounds.specs.Rounds.{progress, most_rounds}
-use Rattle.divide_merge.specs.Names.{RowIdentity}
+use Rattle.divide_merge.specs.Names.{RowIdentity, HasScripts}
 use Rattle.divide_merge.specs.Verdicts.{Verdict, Finishes, HasNone, PassesNorm, PassesCount, IsBlocked, RowIsFull, OutIsFull, IsVerdict, kept_of}
 use Rattle.divide_merge.specs.Merges.{DivideView, IsSound, IsCause, taken_of, free_places}
 use Rattle.divide_merge.specs.Reached.{divide_reached, Follows}
@@ -144,3 +144,19 @@ next_of OutIsFull = Round
 -- 1 + 4*P + n + W*(n + 1), where n is the number of terms of q* and P that of f plus n times that of g less one
 abbrev pub rounds_bound : Division → ℕ → ℕ
 rounds_bound d W = most_rounds d W (length (quotient_list d))
+
+-- ---- a team that has sent nothing
+-- the worker knows, keeps and has sent nothing, was told nothing, has no front, and has room for what its row may tell
+pub record IsFresh (v : WorkerView) : Type 0 where
+  pub known : v.state.known ≡ []
+  pub kept : v.state.kept ≡ []
+  pub sent : v.state.sent ≡ []
+  pub notes : v.notes ≡ []
+  pub front : v.front ≡ None
+  pub room : HasRoom v
+
+-- the readers are those of these rings, which are those of the W workers of the division, in order
+pub record AreRead (d : Division) (W : ℕ) (rings readers : List RingName) : Type 0 where
+  pub same : readers ≡ rings
+  pub scripts : HasScripts d rings
+  pub count : length rings ≡ W

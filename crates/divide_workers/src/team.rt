@@ -1,4 +1,12 @@
 //! The workers of a division, each with a ring of its own and all with one row.
+ghost use Rattle.std.specs.Prelude.{◌≡◌, ◌<◌, [], map, All, IfOk};
+ghost use Rattle.whole_laws.specs.Notes.{QuotientScript};
+ghost use Rattle.division_laws.specs.Outcome.{division_of};
+ghost use Rattle.term_ring.specs.Ends.{IsReaderOf, script_in, places_of, taken};
+ghost use Rattle.term_ring.specs.Names.{ring_name, reader_name, IsReading};
+ghost use Rattle.quotient_row.specs.Ends.{IsNew, published};
+ghost use Rattle.divide_merge.specs.Names.{IsFit, IsLooking, IsPublishing, row_identity, writer_row, reader_row};
+ghost use Rattle.divide_workers.specs.Rounds.{AreMembers, AreRead, IsFresh};
 
 use crate::part::{Part, Worker};
 use canonical_terms::Poly;
@@ -37,7 +45,24 @@ fn hire<'a, R: CoeffRing, M: Monomial>(
     worker: u32,
     places: u32,
     reader: RowReader<R, M>,
-) -> Result<(Ring<R, M>, Reader<R, M>, Worker<'a, R, M>), NoMemory> {
+) -> Result<(Ring<R, M>, Reader<R, M>, Worker<'a, R, M>), NoMemory>
+    requires moduli { job.now.f.now.modulus ≡ job.now.g.now.modulus }
+    requires fit { IsFit M.LIM (division_of job.now.mode M.order M.VARS job.now.f.now job.now.g.now) }
+    requires worker { worker < workers }
+    requires places { 0 < places }
+    requires looking { IsLooking reader }
+    requires nothing { IsNew reader }
+    requires row { (reader_row reader).name ≡ record { division = division_of job.now.mode M.order M.VARS job.now.f.now job.now.g.now; start = 0 } }
+    requires row_places { (reader_row reader).places ≡ places }
+    ensures script { IfOk result (λ t. script_in t.0 ≡ QuotientScript (division_of job.now.mode M.order M.VARS job.now.f.now job.now.g.now) workers worker) }
+    ensures places { IfOk result (λ t. 0 < places_of t.0) }
+    ensures reader { IfOk result (λ t. IsReaderOf t.0 t.1) }
+    ensures taken { IfOk result (λ t. taken t.1 ≡ []) }
+    ensures number { IfOk result (λ t. t.2.worker.sender.state.worker ≡ worker) }
+    ensures ring { IfOk result (λ t. t.2.worker.sender.ring ≡ ring_name t.0) }
+    ensures row { IfOk result (λ t. t.2.worker.sender.row ≡ reader_row reader) }
+    ensures fresh { IfOk result (λ t. IsFresh t.2.worker.sender) }
+{
     let script = Script::Quotient {
         f: job.f,
         g: job.g,
@@ -66,7 +91,21 @@ impl<'a, R: CoeffRing, M: Monomial> Team<'a, R, M> {
         job: &Job<'a, R, M>,
         workers: u32,
         places: u32,
-    ) -> Result<Team<'a, R, M>, NoMemory> {
+    ) -> Result<Team<'a, R, M>, NoMemory>
+        requires moduli { job.now.f.now.modulus ≡ job.now.g.now.modulus }
+        requires fit { IsFit M.LIM (division_of job.now.mode M.order M.VARS job.now.f.now job.now.g.now) }
+        requires places { 0 < places }
+        ensures read { IfOk result (λ t. AreRead (division_of job.now.mode M.order M.VARS job.now.f.now job.now.g.now) workers (map ring_name t.rings.items) (map reader_name t.readers.items)) }
+        ensures reading { IfOk result (λ t. All IsReading t.readers.items) }
+        ensures taken { IfOk result (λ t. All (λ r. taken r ≡ []) t.readers.items) }
+        ensures publishing { IfOk result (λ t. IsPublishing t.publisher) }
+        ensures publisher { IfOk result (λ t. writer_row t.publisher ≡ row_identity t.row) }
+        ensures published { IfOk result (λ t. published t.publisher ≡ []) }
+        ensures row { IfOk result (λ t. (row_identity t.row).name ≡ record { division = division_of job.now.mode M.order M.VARS job.now.f.now job.now.g.now; start = 0 }) }
+        ensures places { IfOk result (λ t. (row_identity t.row).places ≡ places) }
+        ensures members { IfOk result (λ t. AreMembers (map ring_name t.rings.items) (row_identity t.row) (map (λ w. w.worker.sender) t.workers.items)) }
+        ensures fresh { IfOk result (λ t. All IsFresh (map (λ w. w.worker.sender) t.workers.items)) }
+    {
         let count = workers as usize;
         let Ok(mut rings) = Vec::with_capacity(alloc, count) else {
             return Err(NoMemory);

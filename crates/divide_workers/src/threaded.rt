@@ -1,11 +1,12 @@
 //! The division of two polynomials by workers.
 
-ghost use Rattle.std.specs.Prelude.{◌≡◌, ◌≢◌, ◌<◌, ◌≤◌, ◌⊎◌, ◌↔◌, length, IfOk, IsTrue, MatchResult};
+ghost use Rattle.std.specs.Prelude.{◌≡◌, ◌≢◌, ◌+◌, ◌^◌, ◌<◌, ◌≤◌, ◌⊎◌, ◌↔◌, [], length, Some, IfOk, IsTrue, MatchResult};
 ghost use Rattle.sdmp_laws.specs.LongDivision.{quotient_list};
 ghost use Rattle.sdmp_laws.specs.Ring.{IsUnit};
+ghost use Rattle.sdmp_laws.specs.Poly.{lc};
 ghost use Rattle.division_laws.specs.Outcome.{division_of};
 ghost use Rattle.divide_core.specs.Answer.{IsAnswer, IsRefusal};
-ghost use Rattle.divide_merge.specs.Merges.{IsDone};
+ghost use Rattle.divide_merge.specs.Merges.{IsDone, IsSound, verdict_of};
 ghost use Rattle.divide_workers.specs.Rounds.{rounds_bound};
 
 use crate::divided::Divided;
@@ -28,12 +29,18 @@ const TERMS: usize = 1 << 30;
 const MOST_ROOM: usize = 1 << 20;
 
 // The first round has room for 64 times the terms of both operands, or for the most: memory that isn't written isn't taken, and each want of room ends the advances of all workers.
-fn first_room(dividend: usize, divisor: usize) -> usize {
+fn first_room(dividend: usize, divisor: usize) -> usize
+    requires { 1 + dividend + divisor < 2 ^ 58 }
+    ensures { 0 < result × result ≤ 2 ^ 20 }
+{
     (64 * (1 + dividend + divisor)).min(MOST_ROOM)
 }
 
 // whether a unit is asked for and the leading coefficient of the divisor is none
-fn is_refused<R: CoeffRing>(ring: R, mode: Mode, lead: R::E) -> bool {
+fn is_refused<R: CoeffRing>(ring: R, mode: Mode, lead: R::E) -> bool
+    requires { R.belongs (R.characteristic ring) lead }
+    ensures { IsTrue result ↔ (((mode ≡ Mode.Remainder) ⊎ (R.characteristic ring ≢ 0)) × (IsUnit (R.characteristic ring) (R.value lead) → ⊥)) }
+{
     if ring.inverse(lead).is_some() {
         return false;
     }
@@ -51,7 +58,21 @@ fn divided<T: Threads + Sync, R: CoeffRing, M: Monomial, G: Gate>(
     workers: u32,
     places: u32,
     gate: &G,
-) -> Result<Divided<R, M>, DivideFault> {
+) -> Result<Divided<R, M>, DivideFault>
+    requires moduli { job.now.f.now.modulus ≡ job.now.g.now.modulus }
+    requires nonzero { job.now.g.now.list ≢ [] }
+    requires unit { (((job.now.mode ≡ Mode.Remainder) ⊎ (job.now.f.now.modulus ≢ 0)) × (IsUnit job.now.f.now.modulus (lc job.now.g.now.list) → ⊥)) → ⊥ }
+    requires workers { 0 < workers }
+    requires places { 0 < places }
+    ensures answer { MatchResult
+        result
+        (λ a. IsAnswer (division_of job.now.mode M.order M.VARS job.now.f.now job.now.g.now) a.answer)
+        (λ fault. IsRefusal (division_of job.now.mode M.order M.VARS job.now.f.now job.now.g.now) fault) }
+    ensures rounds { IfOk result (λ a. a.rounds ≤ rounds_bound (division_of job.now.mode M.order M.VARS job.now.f.now job.now.g.now) workers) }
+    ensures done { IfOk result (λ a. IsDone a.last.answer) }
+    ensures terms { IfOk result (λ a. a.last.terms ≡ length (quotient_list (division_of job.now.mode M.order M.VARS job.now.f.now job.now.g.now))) }
+    ensures receipt { IfOk result (λ a. (a.last.merge.value.run.state.division ≡ division_of job.now.mode M.order M.VARS job.now.f.now job.now.g.now) × (a.last.merge.value.run.state.workers ≡ workers)) }
+{
     let dividend = job.f.terms().len();
     let divisor = job.g.terms().len();
     if dividend >= TERMS || divisor >= TERMS {
@@ -77,6 +98,7 @@ fn divided<T: Threads + Sync, R: CoeffRing, M: Monomial, G: Gate>(
         first_room(dividend, divisor),
         gate,
     )?;
+    finished.merge.whole();
     answer(finished, job.mode)
 }
 
@@ -84,7 +106,19 @@ fn divided<T: Threads + Sync, R: CoeffRing, M: Monomial, G: Gate>(
 fn answer<R: CoeffRing, M: Monomial>(
     finished: Finished<R, M>,
     mode: Mode,
-) -> Result<Divided<R, M>, DivideFault> {
+) -> Result<Divided<R, M>, DivideFault>
+    requires sound { IsSound M.LIM finished.merge }
+    requires answer { finished.merge.answer ≡ Some (verdict_of M.vector R.value finished.last.answer) }
+    requires mode { finished.merge.run.state.division.mode ≡ mode }
+    ensures answer { MatchResult
+        result
+        (λ a. IsAnswer finished.merge.run.state.division a.answer)
+        (λ fault. IsRefusal finished.merge.run.state.division fault) }
+    ensures found { IfOk result (λ _. finished.merge.run.state.q ≡ quotient_list finished.merge.run.state.division) }
+    ensures rounds { IfOk result (λ a. a.rounds ≡ finished.rounds) }
+    ensures done { IfOk result (λ a. IsDone a.last.answer) }
+    ensures last { IfOk result (λ a. a.last ≡ finished.last) }
+{
     let Finished {
         merge,
         last,
