@@ -10,3 +10,4 @@ pub mod Bounding
 pub mod Teams
 pub mod Comparing
 pub mod Fields
+pub mod Advancing

@@ -79,6 +79,7 @@ impl<R: CoeffRing, M: Monomial> Sender<'_, R, M> {
         ensures sender { sender_of self.new ≡ sender_of self.old }
         ensures kept { self.new.state.kept ≡ self.old.state.kept }
         ensures news { IsTrue result → length self.new.notes ≡ length self.old.notes + 1 }
+        ensures places { IsTrue result → length self.new.notes ≤ self.old.row.places }
         ensures nothing { result ≡ false → FindsNothing self.old self.new }
     {
         let Ok(note) = self.reader.look(row) else {
