@@ -1,5 +1,6 @@
 -- How an advance of a dividing worker goes on, and how it ends.
-use Rattle.std.proofs.Common.{◌≡◌, ◌⊎◌, inl, inr, ℕ, ◌+◌, ◌-◌, ◌<◌, ◌≤◌, List, [], ◌++◌, length, Option, Some, None, refl, sym, ap, ◌∙◌, subst, arith, length-append}
+use Rattle.std.proofs.Common.{◌≡◌, ◌⊎◌, inl, inr, ℕ, ◌+◌, ◌-◌, ◌*◌, ◌^◌, ◌<◌, ◌≤◌, Fits, w64, List, [], ◌++◌, length, Option, Some, None, refl, sym, ap, ◌∙◌, subst, arith, length-append}
+use Rattle.std.proofs.Math.Nat.{mul-le-mul_right}
 use mathlib.Core.List.{IsPrefix}
 use Rattle.whole_laws.specs.Notes.{Script, Carry}
 use Rattle.turnstile.specs.declared.turn.Pass.{Pass}
@@ -77,6 +78,10 @@ module _ {X M E : Type 0} where
   moves name a b p q (Full x) f h = record { works = f; stopped = inl h.0 }
   moves name a b p q (Waiting known x) f (inl h) = record { works = f; stopped = inr (λ r. absurd (h.idle r)) }
   moves name a b p q (Waiting known x) f (inr h) = record { works = f; stopped = inr (λ r. (h.marked, h.holds, h.nothing)) }
+
+-- a place of a slice is within the memory that the slice takes
+pub place_fits : (k n s : ℕ) → k < n → n * s < 2 ^ 63 → Fits w64 (k * s)
+place_fits k n s h l = let m : k * s ≤ n * s = mul-le-mul_right s (omega arith) in omega (arith, m, l)
 
 -- what it has sent follows its script
 pub carried_by : (lim : ℕ) (v : WorkerView) → IsWorking lim v → Carry v.ring.script v.state.sent
