@@ -1,11 +1,11 @@
 -- How an advance of a dividing worker goes on, and how it ends.
-use Rattle.std.proofs.Common.{◌≡◌, ◌⊎◌, inl, inr, ℕ, ◌+◌, ◌-◌, ◌*◌, ◌^◌, ◌<◌, ◌≤◌, Fits, w64, List, [], ◌++◌, length, Option, Some, None, refl, sym, ap, ◌∙◌, subst, arith, length-append}
+use Rattle.std.proofs.Common.{◌≡◌, ℕ, ◌+◌, ◌-◌, ◌*◌, ◌^◌, ◌<◌, ◌≤◌, Fits, w64, List, [], ◌++◌, length, Option, Some, None, refl, sym, ap, ◌∙◌, subst, arith, length-append}
 use Rattle.std.proofs.Math.Nat.{mul-le-mul_right}
 use mathlib.Core.List.{IsPrefix}
 use Rattle.whole_laws.specs.Notes.{Script, Carry}
 use Rattle.turnstile.specs.declared.turn.Pass.{Pass}
 use Rattle.turnstile.specs.Passes.{entries, busy, patience}
-use Rattle.divide_wholes.specs.Workers.{worker_rows, worker_script}
+use Rattle.divide_wholes.specs.Workers.{worker_rows}
 use Rattle.term_ring.specs.Sending.{IsRefused, WasRefused}
 use Rattle.divide_merge.specs.Merges.{DivideView}
 use Rattle.divide_merge.specs.Reached.{DivideName}
@@ -15,9 +15,7 @@ use Rattle.divide_workers.specs.Views.{WorkerView, sender_of}
 use Rattle.divide_workers.specs.Working.{IsWorking}
 use Rattle.divide_workers.specs.Steps.{Works, FindsNothing, HoldsBack, Pushes}
 use Rattle.divide_workers.specs.Stops.{StaysUntold, IsReceipt, IsLastReceipt, WaitsInVain, IsStop}
-use Rattle.divide_workers.specs.Rounds.{Moves}
-use Rattle.divide_workers.specs.declared.stop.DivideStop.{DivideStop}
-use Rattle.divide_workers.specs.declared.stop.DivideStop.TheVariants.{Full, Waiting}
+use Rattle.divide_workers.specs.declared.stop.DivideStop.TheVariants.{Full}
 use Rattle.divide_workers.proofs.Working.{works_again}
 
 -- ---- what stays while it works
@@ -73,11 +71,6 @@ module _ {X M E : Type 0} where
         nothing = untold.count;
         receipt = last_receipt name p q r x e b receipt;
       }
-
-  pub moves : (name : DivideName) (a b : WorkerView) (p q : Option (Pass DivideView)) (stop : DivideStop X M E) → Works a b → IsStop name a b p q stop → Moves a b
-  moves name a b p q (Full x) f h = record { works = f; stopped = inl h.0 }
-  moves name a b p q (Waiting known x) f (inl h) = record { works = f; stopped = inr (λ r. absurd (h.idle r)) }
-  moves name a b p q (Waiting known x) f (inr h) = record { works = f; stopped = inr (λ r. (h.marked, h.holds, h.nothing)) }
 
 -- a place of a slice is within the memory that the slice takes
 pub place_fits : (k n s : ℕ) → k < n → n * s < 2 ^ 63 → Fits w64 (k * s)
