@@ -23,3 +23,4 @@ pub mod Handing
 pub mod Changing
 pub mod NewRow
 pub mod Finishing
+pub mod Advancing

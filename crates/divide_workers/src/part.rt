@@ -117,6 +117,7 @@ impl<'a, R: CoeffRing, M: Monomial> Part<'a, R, M> {
         ensures works { Works self.old.sender self.new.sender }
         ensures stop { IsStop (divide_name (made_with shared.now.turnstile.now)) self.old.sender self.new.sender (Some pass.old) (Some pass.new) result }
     {
+        self.whole();
         let worker = self.sender.worker();
         gate.arrive(worker);
         if !self.sender.has_rows() {
@@ -149,6 +150,7 @@ impl<'a, R: CoeffRing, M: Monomial> Part<'a, R, M> {
         ensures works { Works self.old.sender self.new.sender }
         ensures stop { IsStop (divide_name (made_with shared.now.turnstile.now)) self.old.sender self.new.sender (Some pass.old) (Some pass.new) result }
     {
+        self.whole();
         loop {
             self.sender.learn_all(shared.row, steps);
             if let Err(receipt) = self.send(shared, ring, pass, steps) {

@@ -85,6 +85,7 @@ pub(crate) fn wait_for_news<R: CoeffRing, M: Monomial>(
     ensures works { Works sender.old sender.new }
     ensures sender { sender_of sender.new ≡ sender_of sender.old }
     ensures news { IfOk result (λ _. length sender.old.notes < length sender.new.notes) }
+    ensures places { IfOk result (λ _. length sender.new.notes ≤ sender.old.row.places) }
     ensures kept { IfOk result (λ _. sender.new.state.kept ≡ sender.old.state.kept) }
     ensures untold { IfErr result (λ _. StaysUntold sender.old sender.new) }
     ensures receipt { IfErr result (λ r. IsReceipt (divide_name (made_with shared.now.turnstile.now)) patience pass.old pass.new r) }

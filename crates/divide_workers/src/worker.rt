@@ -109,7 +109,9 @@ impl<'a, R: CoeffRing, M: Monomial> DivideWorker<'a, R, M> {
             turnstile,
             ended: &ended,
         };
-        self.part.advance(&shared, pass, gate)
+        let stop = self.part.advance(&shared, pass, gate);
+        self.part.whole();
+        stop
     }
 
     /// Lets the worker's writer meet the merge's reader of its ring, and its reader of the row the merge's writer: the merge finds what the worker has sent, the worker the room that the merge has made and what this has published. It takes no note, tries no turnstile and allocates nothing.
