@@ -2,7 +2,7 @@
 ghost use Rattle.std.specs.Prelude.{◌≡◌, IfOk};
 
 use canonical_terms::{Poly, TermOf};
-use coeff_ring::{CoeffRing, Integers};
+use coeff_ring::CoeffRing;
 use packed_monomial::{Monomial, Packed};
 use std::alloc::Global;
 use std::test::Fail;
@@ -46,10 +46,4 @@ pub fn is_same<R: CoeffRing, M: Monomial>(left: &Poly<R, M>, right: &Poly<R, M>)
         }
     }
     true
-}
-
-/// The exponents and the coefficient of the term at this place.
-pub fn shown(poly: &Poly<Integers, Plane>, place: usize) -> Option<Power> {
-    let term = poly.terms().get(place)?;
-    Some((term.mono.exponent(0), term.mono.exponent(1), term.coef))
 }

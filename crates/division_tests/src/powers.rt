@@ -1,5 +1,5 @@
 //! Long quotients: x^200 - 1 by x - 1, and a power of a sum of four variables.
-ghost use Rattle.std.specs.Prelude.{◌≡◌, IfOk};
+ghost use Rattle.std.specs.Prelude.{◌≡◌, ◌<◌, IfOk};
 
 use crate::answers::{Answer, Case, Team, rounds_of};
 use crate::polys::{Power, is_same};
@@ -13,6 +13,7 @@ use row_merge::product;
 use sdmp_laws::Mode;
 use std::alloc::Global;
 use std::test::Fail;
+use std::thread::Threads;
 use turnstile::OpenGate;
 
 type Space = Poly<Integers, Packed<4>>;
@@ -95,20 +96,48 @@ fn power_and_next(alloc: Global, exponent: u32) -> Result<(Space, Space), Fail>
     Ok((power, next))
 }
 
-#[test]
-fn divides_a_power_of_five_terms(rt: HostRuntime) -> Result<(), Fail> {
-    let alloc = rt.alloc();
-    let (power, next) = power_and_next(alloc, 12)?;
-    assert_eq!(rt; power.terms().len(), 1820);
+// the power times the next polynomial, divided by the power, is the next polynomial
+fn divides_back<T: Threads + Sync>(
+    rt: &T,
+    alloc: Global,
+    exponent: u32,
+    workers: u32,
+) -> Result<usize, Fail>
+    requires { 0 < workers }
+{
+    let (power, next) = power_and_next(alloc, exponent)?;
     let whole = times(alloc, &power, &next)?;
-    assert_eq!(rt; whole.terms().len(), 20_475);
+    let divided = divide(
+        rt,
+        alloc,
+        &whole,
+        &power,
+        Mode::Exact,
+        workers,
+        1024,
+        &OpenGate,
+    )?;
+    let Division::Quotient(quotient) = divided.answer else {
+        return Err(Fail::from("no quotient"));
+    };
+    let terms = next.terms().len();
+    let right = is_same(&quotient, &next) && divided.last.terms() == terms as u64;
+    Ok(
+        right
+            .then_some(whole.terms().len())
+            .ok_or("another quotient")?,
+    )
+}
+
+#[test]
+fn divides_by_powers_of_five_terms(rt: HostRuntime) -> Result<(), Fail> {
     for workers in [1, 3, 8] {
-        let divided = divide(&rt, alloc, &whole, &power, Mode::Exact, workers, 1024, &OpenGate)?;
-        let Division::Quotient(quotient) = divided.answer else {
-            panic!(rt; "a quotient")
-        };
-        assert!(rt; is_same(&quotient, &next), "{workers} workers");
-        assert!(rt; divided.last.terms() == 1820 && divided.rounds > 0);
+        assert_eq!(rt;
+            divides_back(&rt, rt.alloc(), 6, workers)?,
+            1820,
+            "{workers} workers"
+        );
     }
+    assert_eq!(rt; divides_back(&rt, rt.alloc(), 12, 3)?, 20_475);
     Ok(())
 }
