@@ -20,4 +20,6 @@ mod powers;
 #[cfg(test)]
 mod stalls;
 #[cfg(test)]
+mod sums;
+#[cfg(test)]
 mod workers;

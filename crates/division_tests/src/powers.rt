@@ -1,22 +1,17 @@
-//! Long quotients: x^200 - 1 by x - 1, and a power of a sum of four variables.
-ghost use Rattle.std.specs.Prelude.{◌≡◌, ◌<◌, IfOk};
+//! Long quotients: that of x^200 - 1 by x - 1, and powers of a sum in four variables.
+ghost use Rattle.std.specs.Prelude.{◌<◌};
 
 use crate::answers::{Answer, Case, Team, rounds_of};
 use crate::polys::{Power, is_same};
-use bound_check::product_room;
-use canonical_terms::{Poly, TermOf};
+use crate::sums::{power_and_next, times};
 use coeff_ring::Integers;
 use divide_core::Division;
 use divide_workers::divide;
-use packed_monomial::{Monomial, Packed};
-use row_merge::product;
 use sdmp_laws::Mode;
 use std::alloc::Global;
 use std::test::Fail;
 use std::thread::Threads;
 use turnstile::OpenGate;
-
-type Space = Poly<Integers, Packed<4>>;
 
 /// The sum of so many powers of x, from 1 on.
 pub fn falling_powers(alloc: Global, count: u32) -> Result<Vec<Power>, Fail> {
@@ -48,52 +43,6 @@ fn divides_a_long_power_in_few_rounds(rt: HostRuntime) -> Result<(), Fail> {
     let rounds = rounds_of(&rt, rt.alloc(), Integers, case, team, &OpenGate)?;
     assert!(rt; rounds.is_some_and(|count| count <= 1813));
     Ok(())
-}
-
-// 1 and the four variables
-fn sum_of_variables(alloc: Global) -> Result<Space, Fail>
-    ensures { IfOk result (λ f. f.modulus ≡ 0) }
-{
-    let exponents = [
-        [0, 0, 0, 0],
-        [1, 0, 0, 0],
-        [0, 1, 0, 0],
-        [0, 0, 1, 0],
-        [0, 0, 0, 1],
-    ];
-    let mut list = Vec::new(alloc);
-    for i in 0..exponents.len() {
-        let mono = Packed::<4>::pack(&exponents[i])?;
-        list.push(TermOf { mono, coef: 1 })?;
-    }
-    Ok(Poly::from_terms(alloc, Integers, list)?)
-}
-
-fn times(alloc: Global, f: &Space, g: &Space) -> Result<Space, Fail>
-    requires { f.now.modulus ≡ g.now.modulus }
-    ensures { IfOk result (λ h. h.modulus ≡ f.now.modulus) }
-{
-    product_room(f, g)?;
-    Ok(product(alloc, f, g)?)
-}
-
-// the power of the sum, and that plus 1
-fn power_and_next(alloc: Global, exponent: u32) -> Result<(Space, Space), Fail>
-    ensures power { IfOk result (λ t. t.0.modulus ≡ 0) }
-    ensures next { IfOk result (λ t. t.1.modulus ≡ 0) }
-{
-    let sum = sum_of_variables(alloc)?;
-    let mut power = sum_of_variables(alloc)?;
-    for _ in 1..exponent {
-        power = times(alloc, &power, &sum)?;
-    }
-    let mut list = power.terms().to_vec(alloc)?;
-    list.push(TermOf {
-        mono: Packed::<4>::one(),
-        coef: 1,
-    })?;
-    let next = Poly::from_terms(alloc, Integers, list)?;
-    Ok((power, next))
 }
 
 // the power times the next polynomial, divided by the power, is the next polynomial
