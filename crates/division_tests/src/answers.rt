@@ -1,5 +1,4 @@
 //! What a division by workers answers, beside what it is to answer.
-
 ghost use Rattle.std.specs.Prelude.{◌<◌};
 
 use crate::polys::{Plane, Power, is_same, poly};

@@ -1,4 +1,5 @@
 //! Gates that hold some of the workers change no answer.
+ghost use Rattle.std.specs.Prelude.{◌<◌};
 
 use crate::answers::{Answer, Case, Team, rounds_of};
 use crate::gates::{Hold, StallGate};
@@ -53,7 +54,9 @@ fn is_answered<T: Threads + Sync>(
     alloc: Global,
     case: Case<'_>,
     team: Team,
-) -> Result<bool, Fail> {
+) -> Result<bool, Fail>
+    requires { (0 < team.workers) × (0 < team.places) }
+{
     if rounds_of(rt, alloc, Integers, case, team, &OpenGate)?.is_none() {
         return Ok(false);
     }
