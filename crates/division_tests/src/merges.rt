@@ -1,14 +1,27 @@
 //! The shared merge of x^2 + 1 by x + 1, whose one worker sends its notes by hand.
+ghost use Rattle.quotient_row.specs.Ends.{IsReaderOf};
 
 use crate::alone::{begin, hire, open_row};
 use crate::lines::{Line, binomial};
 use canonical_terms::TermOf;
+use coeff_ring::Integers;
 use divide_merge::{DivideAdvanceOf, DivideTally};
 use packed_monomial::Monomial;
-use quotient_row::{Nothing, RowNoteOf};
+use quotient_row::{Row, RowNoteOf, RowReader};
 use std::test::Fail;
 use step_count::Steps;
 use term_ring::NoteOf;
+
+// the exponent and the coefficient of the term that the row tells next
+fn learned(reader: &mut RowReader<Integers, Line>, row: &Row<Integers, Line>) -> Option<(u32, i128)>
+    requires { IsReaderOf row.now reader.old }
+    ensures { IsReaderOf row.now reader.new }
+{
+    match reader.look(row) {
+        Ok(RowNoteOf::Term(term)) => Some((term.mono.exponent(0), term.coef)),
+        _ => None,
+    }
+}
 
 #[test]
 fn one_worker_of_a_division_without_a_quotient(rt: HostRuntime) -> Result<(), Fail> {
@@ -40,10 +53,7 @@ fn one_worker_of_a_division_without_a_quotient(rt: HostRuntime) -> Result<(), Fa
     assert!(rt; found[0].mono == x && found[0].coef == 1);
 
     // the worker learns x and sends its product with 1
-    let Ok(RowNoteOf::Term(term)) = reader.look(&row) else {
-        panic!(rt; "the first term")
-    };
-    assert!(rt; term.mono == x && term.coef == 1);
+    assert_eq!(rt; learned(&mut reader, &row), Some((1, 1)));
     writer.push(&rings[0], NoteOf::Term(TermOf { mono: x, coef: 1 }))?;
     let receipt = merge.advance(&rings, &row, &mut steps);
     assert!(rt; matches!(receipt.answer(), DivideAdvanceOf::Blocked(0)));
@@ -52,13 +62,8 @@ fn one_worker_of_a_division_without_a_quotient(rt: HostRuntime) -> Result<(), Fa
     // -1 is found; its product with 1 leaves 2
     merge.whole();
     merge.meet(&rings[0], &row, 0, &mut writer, &mut reader);
-    let Ok(RowNoteOf::Term(term)) = reader.look(&row) else {
-        panic!(rt; "the second term")
-    };
-    assert!(rt; term.mono == one && term.coef == -1);
-    let Err(Nothing) = reader.look(&row) else {
-        panic!(rt; "two terms")
-    };
+    assert_eq!(rt; learned(&mut reader, &row), Some((0, -1)));
+    assert_eq!(rt; learned(&mut reader, &row), None);
     let last_product = TermOf {
         mono: one,
         coef: -1,
@@ -103,9 +108,6 @@ fn goes_on_with_a_new_row(rt: HostRuntime) -> Result<(), Fail> {
     let receipt = merge.advance(&rings, &row, &mut steps);
     assert!(rt; matches!(receipt.answer(), DivideAdvanceOf::Blocked(0)));
     assert!(rt; receipt.terms() == 2);
-    let Ok(RowNoteOf::Term(term)) = reader.look(&row) else {
-        panic!(rt; "the second term")
-    };
-    assert!(rt; term.mono.exponent(0) == 0 && term.coef == -1);
+    assert_eq!(rt; learned(&mut reader, &row), Some((0, -1)));
     Ok(())
 }
