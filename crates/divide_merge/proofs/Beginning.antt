@@ -1,30 +1,29 @@
 -- A merge of a division as it begins, and as it goes on with a new row.
-use Rattle.std.proofs.Common.{◌≡◌, ◌⊎◌, inl, inr, ℕ, zero, suc, ◌+◌, ◌*◌, ◌<◌, ◌≤◌, ◌^◌, ℤ, min, false, List, [], ◌∷◌, ◌++◌, length, get_or, map, drop, replicate, All, Option, Some, None, refl, sym, ap, ◌∙◌, subst, arith}
-use Rattle.std.proofs.lemmas.List.{length-map, length-replicate, get_or-replicate}
-use Rattle.std.proofs.lemmas.Option.{MatchOption-from_none}
+use Rattle.std.proofs.Common.{◌≡◌, inl, inr, ℕ, ◌*◌, ◌<◌, ◌^◌, ℤ, min, false, List, [], ◌∷◌, length, map, replicate, All, Option, Some, None, refl, sym, ap, ◌∙◌, subst, arith}
+use Rattle.std.proofs.lemmas.List.{length-replicate, get_or-replicate}
 use Rattle.std.proofs.lemmas.List.Elements.{All-nil, All-replicate}
 use Rattle.std.proofs.lemmas.List.Folds.{sum_by-replicate}
 use Rattle.sdmp_laws.specs.Order.{Order}
 use Rattle.sdmp_laws.specs.Poly.{Term, norm}
-use Rattle.sdmp_laws.specs.Canonical.{Polynomial, IsCanonical}
-use Rattle.sdmp_laws.specs.Division.{Division, IsAccepted}
-use Rattle.sdmp_laws.specs.Limits.{PassesBound, Passes, greatest_norm}
+use Rattle.sdmp_laws.specs.Canonical.{Polynomial}
+use Rattle.sdmp_laws.specs.Division.{Division}
+use Rattle.sdmp_laws.specs.Limits.{PassesBound}
 use Rattle.sdmp_laws.proofs.Parts.{norm_nil}
-use Rattle.whole_laws.specs.Notes.{Note, QuotientScript}
+use Rattle.whole_laws.specs.Notes.{Note}
 use Rattle.whole_laws.specs.Wholes.{MergeState, merge_start, notes_of as notes_at}
 use Rattle.divide_wholes.specs.Row.{RowNote, row_terms}
 use Rattle.divide_wholes.specs.Wholes.{DivideState, divide_start, latest_mark, mark_after}
 use Rattle.divide_wholes.specs.MergeRow.{with_new_row}
 use Rattle.dividing_rounds.specs.Found.{Fits}
 use Rattle.dividing_rounds.specs.Stalls.{IsStuck, IsLow}
-use Rattle.dividing_rounds.specs.Runs.{DivideRun, RunWhole, run_start, run_row}
-use Rattle.divide_merge.specs.Verdicts.{Verdict, Finishes, HasNone, PassesNorm, PassesCount, IsBlocked, RowIsFull, OutIsFull, IsVerdict, IsFinal, IsPresentAt, IsTermDue, NoneStuck}
+use Rattle.dividing_rounds.specs.Runs.{RunWhole, run_start, run_row}
+use Rattle.divide_merge.specs.Verdicts.{Verdict, Finishes, HasNone, PassesNorm, PassesCount, IsBlocked, RowIsFull, OutIsFull, IsVerdict, IsFinal, IsPresentAt, IsTermDue}
 use Rattle.divide_merge.specs.Merges.{free_places}
 use Rattle.canonical_terms.specs.View.{sum_of}
 use Rattle.canonical_terms.specs.declared.term.TermOf.{TermOf}
 use Rattle.std.specs.Option.{IfSome, is_some}
 use Rattle.term_ring.specs.Ends.{taken}
-use Rattle.term_ring.specs.Names.{RingName, notes_count, reader_name, IsReading}
+use Rattle.term_ring.specs.Names.{notes_count, reader_name, IsReading}
 use Rattle.term_ring.specs.declared.ring.Reader.{Reader}
 use Rattle.ring_heads.specs.declared.head.HeadOf.{HeadOf}
 use Rattle.ring_heads.specs.declared.head.HeadOf.TheVariants as head
@@ -33,12 +32,12 @@ use Rattle.quotient_row.specs.Ends.{published}
 use Rattle.quotient_row.specs.Names.{RowName}
 use Rattle.quotient_row.specs.Spelling.{notes_of as row_notes_of}
 use Rattle.quotient_row.specs.declared.row.RowWriter.{RowWriter}
-use Rattle.global_heap.specs.Inside.{reader_notes, merge_state}
+use Rattle.global_heap.specs.Inside.{merge_state}
 use Rattle.global_heap.specs.Names.{first_product}
 use Rattle.global_heap.proofs.Begun.{start_state}
-use Rattle.divide_merge.specs.Names.{RowIdentity, writer_row, IsPublishing, script_division, first_division, HasScripts, IsFit}
+use Rattle.divide_merge.specs.Names.{writer_row, IsPublishing, script_division, first_division, HasScripts, IsFit}
 use Rattle.divide_merge.specs.Divisors.{IsDivisor}
-use Rattle.divide_merge.specs.Inside.{Held, vector_of, answer_of, NotEnded, taken_notes, published_notes, divide_state, divide_run, divide_view, IsLatest, IsMadeFor, HasWorkers, HasTerms, IsDivideMerge}
+use Rattle.divide_merge.specs.Inside.{Held, answer_of, NotEnded, taken_notes, published_notes, divide_state, divide_run, divide_view, IsLatest, IsDivideMerge}
 use Rattle.divide_merge.specs.declared.divisor.Divisor.{Divisor}
 use Rattle.divide_merge.specs.declared.mark.Mark.{Mark}
 use Rattle.dividing_rounds.proofs.RunLemmas.{run_start_law, run_row_law}

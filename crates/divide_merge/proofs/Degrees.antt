@@ -1,17 +1,16 @@
 -- What a merge of a division reads has degrees within the limit.
-use Rattle.std.proofs.Common.{◌≡◌, ◌≢◌, ◌⊎◌, inl, inr, ℕ, zero, suc, ◌+◌, ◌<◌, ◌≤◌, ℤ, pos, List, [], ◌∷◌, ◌++◌, length, get_or, true, false, Bool, true≢false, Option, Some, None, refl, sym, ap, ◌∙◌, subst, arith, append_assoc}
-use mathlib.Core.List.{IsPrefix, IsSuffix}
-use Rattle.sdmp_laws.specs.Order.{Order, ◌⋅◌, degree, alike, Below}
+use Rattle.std.proofs.Common.{◌≡◌, ◌≢◌, ◌⊎◌, inl, inr, ℕ, ◌+◌, ◌<◌, ◌≤◌, pos, List, [], ◌∷◌, ◌++◌, true, false, Bool, true≢false, refl, sym, ap, ◌∙◌, subst, arith}
+use mathlib.Core.List.{IsPrefix}
+use Rattle.sdmp_laws.specs.Order.{◌⋅◌, degree, alike}
 use Rattle.sdmp_laws.specs.Ring.{red}
 use Rattle.sdmp_laws.specs.Poly.{Term, coef, times, lm, AllDegrees}
-use Rattle.sdmp_laws.specs.Division.{Division, IsAccepted, Turn, Turns}
+use Rattle.sdmp_laws.specs.Division.{Division, Turn, Turns}
 use Rattle.sdmp_laws.specs.LongDivision.{quotient_list}
 use Rattle.sdmp_laws.proofs.OrderLemmas.{alike_same, degree_times}
 use Rattle.sdmp_laws.proofs.Ints.{red_zero}
 use Rattle.sdmp_laws.proofs.Tests.{or_out}
 use Rattle.sdmp_laws.proofs.ListLemmas.{AllDegrees-every, AllDegrees-up}
 use Rattle.sdmp_laws.proofs.DegreeLemmas.{degree_laws}
-use Rattle.sdmp_laws.proofs.DivisionLemmas.{length_lm}
 use Rattle.sdmp_laws.proofs.LongLemmas.{quotient_list_is}
 use Rattle.whole_laws.specs.Notes.{QuotientScript, after_lead, divisor_rows, script_list, has}
 use Rattle.whole_laws.specs.Wholes.{head_terms}

@@ -1,11 +1,10 @@
 -- What a merge keeps of its divisor.
-use Rattle.std.proofs.Common.{◌≡◌, ◌≢◌, ◌↔◌, ℕ, zero, suc, ◌≤◌, ℤ, List, [], ◌∷◌, length, get_or, All, Option, MatchOption, IsTrue, eqb, eqb-true, eq-eqb, refl, sym, ap, ◌∙◌, subst, arith}
+use Rattle.std.proofs.Common.{◌≡◌, ◌≢◌, ◌↔◌, ℕ, ◌≤◌, ℤ, List, [], ◌∷◌, length, get_or, All, Option, MatchOption, IsTrue, eqb, eqb-true, eq-eqb, sym, ap, ◌∙◌, subst, arith}
 use Rattle.std.proofs.lemmas.List.{length-map}
 use Rattle.sdmp_laws.specs.Order.{Order, degree}
 use Rattle.sdmp_laws.specs.Ring.{IsUnit, IsInverse}
 use Rattle.sdmp_laws.specs.Poly.{Term, lm, lc, AllDegrees}
 use Rattle.sdmp_laws.specs.Canonical.{IsCanonical}
-use Rattle.sdmp_laws.specs.Division.{Division}
 use Rattle.canonical_terms.specs.View.{sum_of, term_of}
 use Rattle.canonical_terms.specs.declared.term.TermOf.{TermOf}
 use Rattle.divide_core.specs.Dividing.{IsLeading}

@@ -1,11 +1,10 @@
 -- What a merge of a division that has finished gives.
-use Rattle.std.proofs.Common.{◌≡◌, ◌≢◌, inl, inr, ◌⊎◌, ℕ, zero, suc, ◌+◌, ◌*◌, ◌<◌, ◌≤◌, ℤ, pos, negsuc, neg_ℤ, List, [], ◌∷◌, ◌++◌, length, Option, Some, None, unsigned_abs, refl, sym, ap, ◌∙◌, subst, arith}
+use Rattle.std.proofs.Common.{◌≡◌, ◌≢◌, ℕ, zero, suc, ◌*◌, ◌≤◌, ℤ, pos, negsuc, neg_ℤ, List, [], ◌∷◌, ◌++◌, Option, Some, None, unsigned_abs, refl, sym, ap, ◌∙◌, subst, arith}
 use Rattle.std.proofs.Math.Nat.{mul-le-mul}
-use Rattle.sdmp_laws.specs.Order.{Order, degree}
-use Rattle.sdmp_laws.specs.Poly.{Term, times, terms, minus, negated, term_neg, norm, lm, lc, AllDegrees, IsPoly}
+use Rattle.sdmp_laws.specs.Order.{Order}
+use Rattle.sdmp_laws.specs.Poly.{Term, times, terms, minus, negated, term_neg, norm, lc, AllDegrees, IsPoly}
 use Rattle.sdmp_laws.specs.Canonical.{IsCanonical}
-use Rattle.sdmp_laws.specs.Limits.{PassesBound, greatest_norm}
-use Rattle.sdmp_laws.specs.Division.{Division, IsAccepted, IsExact, IsRem}
+use Rattle.sdmp_laws.specs.Division.{Division}
 use Rattle.sdmp_laws.specs.DivisionLaws.{rest_list}
 use Rattle.sdmp_laws.specs.LongDivision.{quotient_list}
 use Rattle.sdmp_laws.specs.declared.Mode.{Mode}

@@ -1,5 +1,5 @@
 -- A worker's reader meets its writer, and the row's writer a reader.
-use Rattle.std.proofs.Common.{◌≡◌, ℕ, ◌+◌, ◌<◌, ◌≤◌, ◌^◌, ℤ, min, List, [], ◌++◌, length, get_or, set, map, All, Option, refl, sym, ap, ◌∙◌, subst, arith, length-set}
+use Rattle.std.proofs.Common.{◌≡◌, ℕ, ◌<◌, ◌≤◌, ◌^◌, ℤ, min, List, ◌++◌, length, get_or, set, map, sym, ap, ◌∙◌, subst, arith, length-set}
 use Rattle.std.proofs.lemmas.List as lists
 use Rattle.std.proofs.lemmas.List.{length-map, map-set}
 use Rattle.std.proofs.Math.ListN.{get_or-map}
@@ -7,17 +7,15 @@ use Rattle.std.proofs.lemmas.List.Elements.{All-set}
 use Rattle.std.specs.Option.{IfSome, is_some}
 use mathlib.Core.List.{IsPrefix}
 use Rattle.sdmp_laws.specs.Order.{Order}
-use Rattle.sdmp_laws.specs.Division.{Division}
 use Rattle.whole_laws.specs.Notes.{Note, Script, QuotientScript, Carry, terms_in, owed}
 use Rattle.whole_laws.specs.Wholes.{notes_of as notes_at}
 use Rattle.whole_laws.proofs.OwedLemmas.{owed_split}
 use Rattle.divide_wholes.specs.Row.{RowNote, row_terms}
 use Rattle.divide_wholes.specs.Wholes.{DivideState, divide_script, latest_mark}
-use Rattle.canonical_terms.specs.View.{sum_of}
-use Rattle.dividing_rounds.specs.Runs.{DivideRun, RunWhole}
+use Rattle.dividing_rounds.specs.Runs.{RunWhole}
 use Rattle.term_ring.specs.Spelling.{notes_of}
 use Rattle.term_ring.specs.Carried.{Carries}
-use Rattle.term_ring.specs.Ends.{taken, tail_seen, empty_looks, script_in, IsReaderOf}
+use Rattle.term_ring.specs.Ends.{taken, tail_seen, script_in, IsReaderOf}
 use Rattle.term_ring.specs.Names.{RingName, NoneBelow, notes_count, reader_name, ring_name, IsReading}
 use Rattle.term_ring.specs.declared.note.NoteOf.{NoteOf}
 use Rattle.term_ring.specs.declared.ring.Ring.{Ring}
@@ -31,9 +29,9 @@ use Rattle.global_heap.proofs.States.{same_names}
 use Rattle.global_heap.proofs.Steps.{NoneBelow-set}
 use Rattle.global_heap.proofs.Taking.{read_is, met_prefix, met_count, met_tail}
 use Rattle.divide_merge.specs.Names.{RowIdentity, writer_row, row_identity, first_division}
-use Rattle.divide_merge.specs.Verdicts.{Verdict, IsVerdict, IsFinal}
+use Rattle.divide_merge.specs.Verdicts.{IsVerdict, IsFinal}
 use Rattle.divide_merge.specs.Merges.{DivideView, free_places, taken_of, IsOwed}
-use Rattle.divide_merge.specs.Inside.{Held, vector_of, answer_of, taken_notes, published_notes, divide_state, divide_run, divide_view, IsLatest, IsMadeFor, IsDivideMerge}
+use Rattle.divide_merge.specs.Inside.{Held, answer_of, taken_notes, published_notes, divide_state, divide_run, divide_view, IsLatest, IsMadeFor, IsDivideMerge}
 use Rattle.divide_merge.proofs.States.{idle_state}
 
 -- what a view shows after that, where the worker had sent these notes, so many, and has seen this head

@@ -1,9 +1,9 @@
 -- The causes of a merge's answers exclude each other.
-use Rattle.std.proofs.Common.{◌≡◌, ◌≢◌, ◌⊎◌, inl, inr, ℕ, zero, suc, ◌+◌, ◌<◌, ◌≤◌, ℤ, pos, ◌*ℤ◌, Bool, true, false, true≢false, List, [], ◌∷◌, ◌++◌, length, cond, Option, Some, None, refl, sym, ap, ◌∙◌, subst, arith}
-use Rattle.sdmp_laws.specs.Order.{Order, ◌⋅◌, Divides, over, alike, Below}
-use Rattle.sdmp_laws.specs.Ring.{red, IsReduced}
-use Rattle.sdmp_laws.specs.Poly.{Term, total, coef, lm, lc, minus}
-use Rattle.sdmp_laws.specs.Division.{Division, IsAccepted, Turn, InScope, AtOrAbove, AllAtOrBelow}
+use Rattle.std.proofs.Common.{◌≡◌, ◌≢◌, ◌⊎◌, inl, inr, ℕ, suc, ◌<◌, ℤ, pos, Bool, true, false, true≢false, List, [], ◌∷◌, ◌++◌, length, cond, Option, Some, None, refl, sym, ap, ◌∙◌, subst, arith}
+use Rattle.sdmp_laws.specs.Order.{Order, Divides, alike, Below}
+use Rattle.sdmp_laws.specs.Ring.{red}
+use Rattle.sdmp_laws.specs.Poly.{Term, total, coef, lm, minus}
+use Rattle.sdmp_laws.specs.Division.{IsAccepted, Turn, AtOrAbove, AllAtOrBelow}
 use Rattle.sdmp_laws.specs.Limits.{Passes, PassesBound, quotient_terms_limit}
 use Rattle.sdmp_laws.specs.declared.Mode.{Mode}
 use Rattle.sdmp_laws.specs.declared.Mode.TheVariants.{Exact, Remainder}
@@ -20,7 +20,7 @@ use Rattle.dividing_rounds.proofs.StallLemmas.{within_at}
 use Rattle.dividing_rounds.proofs.WorkloadLemmas.{has_nothing}
 use Rattle.dividing_rounds.specs.Found.{read_coef, term_at, Fits}
 use Rattle.dividing_rounds.specs.Stalls.{IsGreatestRead, IsStuck, IsDue}
-use Rattle.divide_merge.specs.Verdicts.{NoneStuck, IsFirstStuck, HoldsUp, IsFrontDue, IsPresentAt, IsTermDue, IsLeftOver, IsTermWithin, with_term, Verdict, Finishes, HasNone, PassesNorm, PassesCount, IsBlocked, RowIsFull, OutIsFull, IsVerdict, OneVerdict}
+use Rattle.divide_merge.specs.Verdicts.{NoneStuck, HoldsUp, IsFrontDue, IsPresentAt, IsTermDue, IsLeftOver, IsTermWithin, with_term, Verdict, Finishes, HasNone, PassesNorm, PassesCount, IsBlocked, RowIsFull, OutIsFull, IsVerdict, OneVerdict}
 
 -- ---- what is read next is one
 pub at_has : (ord : Order) (x m : List ℕ) (A : List Term) → has x A ≡ true → AllAtOrBelow ord m A → AtOrAbove ord x m

@@ -1,5 +1,5 @@
 -- The loop of an advance.
-use Rattle.std.proofs.Common.{◌≡◌, ◌⊎◌, inl, inr, ℕ, ◌+◌, ◌-◌, ◌*◌, ◌<◌, ◌≤◌, true, false, true≢false, List, [], ◌∷◌, ◌++◌, length, get_or, Option, Some, None, is_some, refl, sym, ap, ◌∙◌, subst, arith, length-append, append-nil, append_assoc}
+use Rattle.std.proofs.Common.{◌≡◌, ◌⊎◌, inl, inr, ℕ, ◌-◌, ◌<◌, ◌≤◌, List, [], ◌++◌, length, get_or, Option, Some, None, is_some, refl, sym, ap, ◌∙◌, subst, arith, length-append, append-nil, append_assoc}
 use Rattle.std.proofs.Math.Nat.{mul-le-mul}
 use Rattle.std.specs.Option.{IfSome}
 use mathlib.Core.List.{IsPrefix}
@@ -8,15 +8,14 @@ use Rattle.sdmp_laws.specs.Division.{Division}
 use Rattle.sdmp_laws.specs.LongDivision.{quotient_list}
 use Rattle.whole_laws.specs.Notes.{Note}
 use Rattle.whole_laws.specs.Wholes.{notes_of, head_of_worker}
-use Rattle.divide_wholes.specs.Wholes.{DivideState}
 use Rattle.dividing_rounds.specs.Runs.{DivideRun, workload_count}
 use Rattle.dividing_rounds.specs.Rounds.{progress}
 use Rattle.term_ring.specs.Names.{NoneBelow, notes_count}
 use Rattle.global_heap.proofs.Steps.{NoneBelow-refl, NoneBelow-trans}
 use Rattle.divide_merge.specs.Verdicts.{Verdict, Finishes, HasNone, PassesNorm, PassesCount, IsBlocked, RowIsFull, OutIsFull, IsVerdict, IsFinal, kept_of}
-use Rattle.divide_merge.specs.Merges.{DivideView, free_places, IsSound, IsCause, IsAskedInVain, Grows, taken_of, AllStarved, IsStarved, FoundEmpty}
-use Rattle.divide_merge.specs.Reached.{DivideReach, divide_reached, Follows, Follows-itself}
-use Rattle.divide_merge.specs.Steps.{Fills, Steady, Answers, GoesFarther, Turns}
+use Rattle.divide_merge.specs.Merges.{DivideView, free_places, IsSound, IsCause, IsAskedInVain, Grows, taken_of, AllStarved}
+use Rattle.divide_merge.specs.Reached.{divide_reached, Follows, Follows-itself}
+use Rattle.divide_merge.specs.Steps.{Fills, Turns}
 use Rattle.dividing_rounds.proofs.LogLemmas.{counts_fit}
 use Rattle.divide_merge.proofs.Following.{row_same, Follows-trans}
 use Rattle.divide_merge.proofs.Filling.{prefix_refl, prefix_trans}

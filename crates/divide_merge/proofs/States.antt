@@ -1,11 +1,11 @@
 -- What a merge of a division holds as plain data, as its fields change.
-use Rattle.std.proofs.Common.{◌≡◌, ℕ, ◌<◌, ℤ, List, [], ◌∷◌, ◌++◌, length, get_or, set, map, Option, Some, None, refl, sym, ap, ◌∙◌, length-set}
+use Rattle.std.proofs.Common.{◌≡◌, ℕ, ◌<◌, ℤ, List, [], ◌∷◌, ◌++◌, length, get_or, set, Option, Some, None, refl, ap, ◌∙◌, length-set}
 use Rattle.std.proofs.lemmas.List.{map-set}
 use Rattle.std.proofs.Math.Seq.{map-set_same}
 use Rattle.whole_laws.specs.Notes.{Note, TermNote, MarkNote, EndNote}
 use Rattle.whole_laws.specs.Wholes.{notes_of as notes_at}
 use Rattle.divide_wholes.specs.Row.{row_terms}
-use Rattle.divide_wholes.specs.Wholes.{DivideState, divide_take, mark_after, latest_mark}
+use Rattle.divide_wholes.specs.Wholes.{divide_take, mark_after, latest_mark}
 use Rattle.canonical_terms.specs.View.{term_of, sum_of}
 use Rattle.canonical_terms.specs.declared.term.TermOf.{TermOf}
 use Rattle.term_ring.specs.Spelling.{note_of, notes_of}
@@ -14,7 +14,6 @@ use Rattle.term_ring.specs.declared.note.NoteOf.{NoteOf}
 use Rattle.term_ring.specs.declared.note.NoteOf.TheVariants as note
 use Rattle.term_ring.specs.declared.ring.Reader.{Reader}
 use Rattle.term_ring.specs.Names.{reader_name}
-use Rattle.ring_heads.specs.declared.head.HeadOf.{HeadOf}
 use Rattle.ring_heads.specs.declared.head.HeadOf.TheVariants as head
 use Rattle.ring_heads.specs.Heads.{plain, plain_heads}
 use Rattle.global_heap.specs.Inside.{reader_notes}

@@ -1,30 +1,27 @@
 -- One turn of an advance: what is read next is processed, or the merge answers.
-use Rattle.std.proofs.Common.{◌≡◌, ◌≢◌, ◌⊎◌, inl, inr, ℕ, ◌+◌, ◌-◌, ◌<◌, ◌≤◌, ℤ, true, false, Bool, true≢false, List, [], ◌∷◌, ◌++◌, length, get_or, Option, Some, None, MatchOption, is_some, refl, sym, ap, ◌∙◌, subst, arith, length-append, append-nil, append_assoc}
-use Rattle.std.specs.Option.{IfSome}
-use mathlib.Core.List.{IsPrefix}
-use Rattle.sdmp_laws.specs.Order.{Order, Below, IsUnder}
+use Rattle.std.proofs.Common.{◌≡◌, ◌⊎◌, inl, inr, ℕ, ◌<◌, true, false, true≢false, List, [], ◌∷◌, ◌++◌, length, Option, Some, None, MatchOption, is_some, refl, sym, ap, ◌∙◌, subst, arith, append-nil}
+use Rattle.sdmp_laws.specs.Order.{Below, IsUnder}
 use Rattle.sdmp_laws.specs.Poly.{Term}
 use Rattle.sdmp_laws.specs.Division.{AtOrAbove, AllAtOrBelow}
 use Rattle.sdmp_laws.proofs.OrderLemmas.{order_facts}
-use Rattle.sdmp_laws.proofs.NextTerm.{at_then_below}
-use Rattle.whole_laws.specs.Notes.{Note, has}
-use Rattle.whole_laws.specs.Wholes.{notes_of, head_terms, head_of_worker}
-use Rattle.divide_wholes.specs.Row.{RowNote, RowTerm, RowFront}
+use Rattle.whole_laws.specs.Notes.{has}
+use Rattle.whole_laws.specs.Wholes.{head_terms}
+use Rattle.divide_wholes.specs.Row.{RowTerm, RowFront}
 use Rattle.divide_wholes.specs.Wholes.{DivideState, processed, found, kept}
 use Rattle.dividing_rounds.specs.Runs.{DivideRun, run_zero, run_rest, run_found, run_front, run_over}
 use Rattle.dividing_rounds.specs.Rounds.{progress}
 use Rattle.dividing_rounds.specs.Stalls.{IsGreatestRead, IsAsked, IsStuck, IsLow, IsDue, mark_of, TopWithin}
-use Rattle.divide_merge.specs.Verdicts.{Verdict, Finishes, HasNone, PassesNorm, PassesCount, IsBlocked, RowIsFull, OutIsFull, IsVerdict, IsFinal, kept_of, HoldsUp, IsFirstStuck, NoneStuck, IsTermDue, IsLeftOver, IsTermWithin, with_term}
+use Rattle.divide_merge.specs.Verdicts.{Verdict, Finishes, HasNone, PassesNorm, PassesCount, IsBlocked, RowIsFull, OutIsFull, IsVerdict, IsFinal, kept_of, HoldsUp, IsFirstStuck, NoneStuck, IsTermDue, IsLeftOver, with_term}
 use Rattle.sdmp_laws.specs.Limits.{Passes, PassesBound, quotient_terms_limit}
 use Rattle.sdmp_laws.specs.declared.Mode.TheVariants.{Exact, Remainder}
 use Rattle.divide_merge.specs.Merges.{DivideView, IsSound, free_places}
-use Rattle.divide_merge.specs.Reached.{DivideReach, divide_reached, RowGrows, Follows, Follows-itself}
+use Rattle.divide_merge.specs.Reached.{divide_reached, Follows-itself}
 use Rattle.divide_merge.specs.Inside.{vector_of}
 use Rattle.divide_merge.specs.Reading.{IsReadNext, next_mono}
 use Rattle.divide_merge.specs.declared.mark.Next.{Next}
-use Rattle.divide_merge.specs.Steps.{Steady, PassesOver, FindsTerm, KeepsTerm, PublishesFront, EndsWith, Answers, GoesFarther, Turns}
+use Rattle.divide_merge.specs.Steps.{PassesOver, FindsTerm, KeepsTerm, PublishesFront, EndsWith, Turns}
 use Rattle.dividing_rounds.proofs.RoundLemmas.{progress_rises}
-use Rattle.divide_merge.proofs.OneAnswer.{at_has, at_both}
+use Rattle.divide_merge.proofs.OneAnswer.{at_has}
 use Rattle.divide_merge.proofs.Reserving.{final_anywhere}
 use Rattle.divide_merge.proofs.Following.{RowGrows-refl, row_same, row_longer}
 

@@ -1,8 +1,8 @@
 -- The fields of a merge of a division, and what they keep.
-use Rattle.std.specs.Prelude.{◌≡◌, ◌⊎◌, ◌↔◌, ℕ, ◌+◌, ◌<◌, ◌≤◌, ◌^◌, ℤ, min, List, [], length, map, drop, All, Option, Some, None, IfSome, slice_index_or}
+use Rattle.std.specs.Prelude.{◌≡◌, ◌↔◌, ℕ, ◌+◌, ◌<◌, ◌≤◌, ◌^◌, ℤ, min, List, length, map, drop, All, Option, Some, None, IfSome, slice_index_or}
 use Rattle.std.specs.Option.{is_some}
 use Rattle.sdmp_laws.specs.Order.{Order}
-use Rattle.sdmp_laws.specs.Poly.{Term, norm as norm_of}
+use Rattle.sdmp_laws.specs.Poly.{norm as norm_of}
 use Rattle.sdmp_laws.specs.Canonical.{Polynomial}
 use Rattle.whole_laws.specs.Notes.{Note}
 use Rattle.whole_laws.specs.Wholes.{notes_of as notes_at}

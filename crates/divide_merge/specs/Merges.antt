@@ -1,12 +1,12 @@
 -- A merge of a division as contracts see it, and what its calls change.
-use Rattle.std.specs.Prelude.{◌≡◌, ℕ, ◌+◌, ◌*◌, ◌-◌, ◌<◌, ◌≤◌, ◌⊎◌, ◌^◌, ◌↔◌, ℤ, List, [], ◌++◌, length, Option, Some, None, IfSome, slice_index_or}
+use Rattle.std.specs.Prelude.{◌≡◌, ℕ, ◌+◌, ◌-◌, ◌<◌, ◌≤◌, ◌^◌, ◌↔◌, ℤ, List, ◌++◌, length, Option, None, IfSome, slice_index_or}
 use mathlib.Core.List.{IsPrefix}
 use Rattle.std.specs.Option.{is_some}
 use Rattle.sdmp_laws.specs.Poly.{Term}
 use Rattle.sdmp_laws.specs.Division.{Division, IsExact, IsRem}
 use Rattle.sdmp_laws.specs.LongDivision.{quotient_list}
 use Rattle.sdmp_laws.specs.declared.Mode.TheVariants.{Exact, Remainder}
-use Rattle.whole_laws.specs.Notes.{Note, after_lead, terms_in, owed}
+use Rattle.whole_laws.specs.Notes.{Note, terms_in, owed}
 use Rattle.whole_laws.specs.Wholes.{notes_of, head_of_worker}
 use Rattle.divide_wholes.specs.Wholes.{divide_script}
 use Rattle.canonical_terms.specs.View.{term_of}

@@ -1,16 +1,14 @@
 -- What the steps of a merge of a division change.
-use Rattle.std.specs.Prelude.{◌≡◌, ◌⊎◌, ℕ, ◌+◌, ◌<◌, ◌≤◌, true, List, ◌++◌, ◌∷◌, [], length, set, Option, Some, None, IfSome, slice_index_or}
+use Rattle.std.specs.Prelude.{◌≡◌, ◌⊎◌, ℕ, ◌+◌, ◌<◌, ◌≤◌, List, ◌++◌, length, set, Option, Some, None, IfSome, slice_index_or}
 use mathlib.Core.List.{IsPrefix}
 use Rattle.sdmp_laws.specs.Division.{AtOrAbove}
 use Rattle.sdmp_laws.specs.Poly.{Term}
 use Rattle.whole_laws.specs.Notes.{Note}
-use Rattle.whole_laws.specs.Wholes.{notes_of, head_of_worker}
-use Rattle.divide_wholes.specs.Row.{RowNote}
-use Rattle.divide_wholes.specs.Wholes.{DivideState}
-use Rattle.dividing_rounds.specs.Runs.{DivideRun, run_take, run_zero, run_rest, run_found, run_front, run_over}
+use Rattle.whole_laws.specs.Wholes.{head_of_worker}
+use Rattle.dividing_rounds.specs.Runs.{run_take, run_zero, run_rest, run_found, run_front, run_over}
 use Rattle.dividing_rounds.specs.Rounds.{progress}
 use Rattle.term_ring.specs.Names.{NoneBelow, notes_count}
-use Rattle.divide_merge.specs.Verdicts.{Verdict, IsVerdict, IsFinal, kept_of}
+use Rattle.divide_merge.specs.Verdicts.{Verdict, IsVerdict, kept_of}
 use Rattle.divide_merge.specs.Merges.{DivideView, taken_of, free_places, IsStarved, FoundEmpty}
 use Rattle.divide_merge.specs.Reached.{divide_reached, RowGrows, Follows}
 

@@ -1,5 +1,4 @@
 //! What a division by workers answers, beside what it is to answer.
-
 ghost use Rattle.std.specs.Prelude.{◌<◌};
 
 use crate::polys::{Plane, Power, is_same, poly};
@@ -52,7 +51,16 @@ pub fn rounds_of<T: Threads + Sync, R: CoeffRing, G: Gate>(
 {
     let f = poly(alloc, ring, case.f)?;
     let g = poly(alloc, ring, case.g)?;
-    match divide(rt, alloc, &f, &g, case.mode, team.workers, team.places, gate) {
+    match divide(
+        rt,
+        alloc,
+        &f,
+        &g,
+        case.mode,
+        team.workers,
+        team.places,
+        gate,
+    ) {
         Ok(divided) => {
             let right = is_right(alloc, ring, &divided, case.answer)?;
             Ok((right && divided.rounds > 0).then_some(divided.rounds))
@@ -78,9 +86,11 @@ fn is_right<R: CoeffRing>(
             let Answer::Quotient(want) = want else {
                 return Ok(false);
             };
-            Ok(is_found(alloc, ring, q, want)?
-                && terms == want.len() as u64
-                && matches!(last, DivideAdvanceOf::Finished))
+            Ok(
+                is_found(alloc, ring, q, want)?
+                    && terms == want.len() as u64
+                    && matches!(last, DivideAdvanceOf::Finished),
+            )
         }
         Division::NoQuotient => {
             let Answer::NoQuotient(want) = want else {
@@ -89,13 +99,19 @@ fn is_right<R: CoeffRing>(
             Ok(terms == want && matches!(last, DivideAdvanceOf::NoQuotient { .. }))
         }
         Division::Remainder { q, r } => {
-            let Answer::Remainder { q: quotient, r: rest } = want else {
+            let Answer::Remainder {
+                q: quotient,
+                r: rest,
+            } = want
+            else {
                 return Ok(false);
             };
-            Ok(is_found(alloc, ring, q, quotient)?
-                && is_found(alloc, ring, r, rest)?
-                && terms == quotient.len() as u64
-                && matches!(last, DivideAdvanceOf::Finished))
+            Ok(
+                is_found(alloc, ring, q, quotient)?
+                    && is_found(alloc, ring, r, rest)?
+                    && terms == quotient.len() as u64
+                    && matches!(last, DivideAdvanceOf::Finished),
+            )
         }
     }
 }

@@ -2,8 +2,24 @@
 #![tactic(auto)]
 
 #[cfg(test)]
+mod alone;
+#[cfg(test)]
 mod answers;
+#[cfg(test)]
+mod divisions;
+#[cfg(test)]
+mod gates;
+#[cfg(test)]
+mod lines;
+#[cfg(test)]
+mod merges;
 #[cfg(test)]
 mod polys;
 #[cfg(test)]
 mod powers;
+#[cfg(test)]
+mod stalls;
+#[cfg(test)]
+mod sums;
+#[cfg(test)]
+mod workers;

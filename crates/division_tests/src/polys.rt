@@ -1,8 +1,10 @@
 //! Polynomials in two variables.
-ghost use Rattle.std.specs.Prelude.{◌≡◌, IfOk};
+ghost use Rattle.std.specs.Prelude.{◌≡◌, ◌≤◌, IfOk};
+ghost use Rattle.sdmp_laws.specs.Order.{degree};
+ghost use Rattle.packed_monomial.specs.Packing.{vector_of, limit_of};
 
-use canonical_terms::{Poly, TermOf};
-use coeff_ring::{CoeffRing, Integers};
+use canonical_terms::{Poly, Term, TermOf};
+use coeff_ring::CoeffRing;
 use packed_monomial::{Monomial, Packed};
 use std::alloc::Global;
 use std::test::Fail;
@@ -12,19 +14,28 @@ pub type Plane = Packed<2>;
 /// The exponents of x and of y, and the coefficient.
 pub type Power = (u32, u32, i128);
 
+// the term with these exponents and this coefficient
+fn one_term<R: CoeffRing>(ring: R, power: Power) -> Result<Term<R, Plane>, Fail>
+    ensures belongs { IfOk result (λ t. R.belongs (R.characteristic ring) t.coef) }
+    ensures degree { IfOk result (λ t. degree (vector_of 2 t.mono.word) ≤ limit_of 2) }
+{
+    let (x, y, number) = power;
+    let mono = Plane::pack(&[x, y])?;
+    let size = ring
+        .from_numeral(number.unsigned_abs())
+        .ok_or("a coefficient")?;
+    let coef = if number < 0 { ring.neg(size) } else { size };
+    Ok(TermOf { mono, coef })
+}
+
 /// The sum of these terms.
-pub fn poly<R: CoeffRing>(alloc: Global, ring: R, terms: &[Power]) -> Result<Poly<R, Plane>, Fail>
+pub fn poly<R: CoeffRing>(alloc: Global, ring: R, powers: &[Power]) -> Result<Poly<R, Plane>, Fail>
     ensures { IfOk result (λ f. f.modulus ≡ R.characteristic ring) }
 {
     let mut list = Vec::new(alloc);
-    for i in 0..terms.len() {
-        let (x, y, number) = terms[i];
-        let mono = Plane::pack(&[x, y])?;
-        let size = ring
-            .from_numeral(number.unsigned_abs())
-            .ok_or("a coefficient")?;
-        let coef = if number < 0 { ring.neg(size) } else { size };
-        list.push(TermOf { mono, coef })?;
+    for i in 0..powers.len() {
+        let term = one_term(ring, powers[i])?;
+        list.push(term)?;
     }
     Ok(Poly::from_terms(alloc, ring, list)?)
 }
@@ -46,10 +57,4 @@ pub fn is_same<R: CoeffRing, M: Monomial>(left: &Poly<R, M>, right: &Poly<R, M>)
         }
     }
     true
-}
-
-/// The exponents and the coefficient of the term at this place.
-pub fn shown(poly: &Poly<Integers, Plane>, place: usize) -> Option<Power> {
-    let term = poly.terms().get(place)?;
-    Some((term.mono.exponent(0), term.mono.exponent(1), term.coef))
 }

@@ -1,21 +1,17 @@
-//! Long quotients: x^200 - 1 by x - 1, and a power of a sum of four variables.
-ghost use Rattle.std.specs.Prelude.{◌≡◌, IfOk};
+//! Long quotients: that of x^200 - 1 by x - 1, and powers of a sum in four variables.
+ghost use Rattle.std.specs.Prelude.{◌<◌};
 
 use crate::answers::{Answer, Case, Team, rounds_of};
 use crate::polys::{Power, is_same};
-use bound_check::product_room;
-use canonical_terms::{Poly, TermOf};
+use crate::sums::{power_and_next, times};
 use coeff_ring::Integers;
 use divide_core::Division;
 use divide_workers::divide;
-use packed_monomial::{Monomial, Packed};
-use row_merge::product;
 use sdmp_laws::Mode;
 use std::alloc::Global;
 use std::test::Fail;
+use std::thread::Threads;
 use turnstile::OpenGate;
-
-type Space = Poly<Integers, Packed<4>>;
 
 /// The sum of so many powers of x, from 1 on.
 pub fn falling_powers(alloc: Global, count: u32) -> Result<Vec<Power>, Fail> {
@@ -49,66 +45,48 @@ fn divides_a_long_power_in_few_rounds(rt: HostRuntime) -> Result<(), Fail> {
     Ok(())
 }
 
-// 1 and the four variables
-fn sum_of_variables(alloc: Global) -> Result<Space, Fail>
-    ensures { IfOk result (λ f. f.modulus ≡ 0) }
+// the power times the next polynomial, divided by the power, is the next polynomial
+fn divides_back<T: Threads + Sync>(
+    rt: &T,
+    alloc: Global,
+    exponent: u32,
+    workers: u32,
+) -> Result<usize, Fail>
+    requires { 0 < workers }
 {
-    let exponents = [
-        [0, 0, 0, 0],
-        [1, 0, 0, 0],
-        [0, 1, 0, 0],
-        [0, 0, 1, 0],
-        [0, 0, 0, 1],
-    ];
-    let mut list = Vec::new(alloc);
-    for i in 0..exponents.len() {
-        let mono = Packed::<4>::pack(&exponents[i])?;
-        list.push(TermOf { mono, coef: 1 })?;
-    }
-    Ok(Poly::from_terms(alloc, Integers, list)?)
-}
-
-fn times(alloc: Global, f: &Space, g: &Space) -> Result<Space, Fail>
-    requires { f.now.modulus ≡ g.now.modulus }
-    ensures { IfOk result (λ h. h.modulus ≡ f.now.modulus) }
-{
-    product_room(f, g)?;
-    Ok(product(alloc, f, g)?)
-}
-
-// the power of the sum, and that plus 1
-fn power_and_next(alloc: Global, exponent: u32) -> Result<(Space, Space), Fail>
-    ensures power { IfOk result (λ t. t.0.modulus ≡ 0) }
-    ensures next { IfOk result (λ t. t.1.modulus ≡ 0) }
-{
-    let sum = sum_of_variables(alloc)?;
-    let mut power = sum_of_variables(alloc)?;
-    for _ in 1..exponent {
-        power = times(alloc, &power, &sum)?;
-    }
-    let mut list = power.terms().to_vec(alloc)?;
-    list.push(TermOf {
-        mono: Packed::<4>::one(),
-        coef: 1,
-    })?;
-    let next = Poly::from_terms(alloc, Integers, list)?;
-    Ok((power, next))
+    let (power, next) = power_and_next(alloc, exponent)?;
+    let whole = times(alloc, &power, &next)?;
+    let divided = divide(
+        rt,
+        alloc,
+        &whole,
+        &power,
+        Mode::Exact,
+        workers,
+        1024,
+        &OpenGate,
+    )?;
+    let Division::Quotient(quotient) = divided.answer else {
+        return Err(Fail::from("no quotient"));
+    };
+    let terms = next.terms().len();
+    let right = is_same(&quotient, &next) && divided.last.terms() == terms as u64;
+    Ok(
+        right
+            .then_some(whole.terms().len())
+            .ok_or("another quotient")?,
+    )
 }
 
 #[test]
-fn divides_a_power_of_five_terms(rt: HostRuntime) -> Result<(), Fail> {
-    let alloc = rt.alloc();
-    let (power, next) = power_and_next(alloc, 12)?;
-    assert_eq!(rt; power.terms().len(), 1820);
-    let whole = times(alloc, &power, &next)?;
-    assert_eq!(rt; whole.terms().len(), 20_475);
+fn divides_by_powers_of_five_terms(rt: HostRuntime) -> Result<(), Fail> {
     for workers in [1, 3, 8] {
-        let divided = divide(&rt, alloc, &whole, &power, Mode::Exact, workers, 1024, &OpenGate)?;
-        let Division::Quotient(quotient) = divided.answer else {
-            panic!(rt; "a quotient")
-        };
-        assert!(rt; is_same(&quotient, &next), "{workers} workers");
-        assert!(rt; divided.last.terms() == 1820 && divided.rounds > 0);
+        assert_eq!(rt;
+            divides_back(&rt, rt.alloc(), 6, workers)?,
+            1820,
+            "{workers} workers"
+        );
     }
+    assert_eq!(rt; divides_back(&rt, rt.alloc(), 12, 3)?, 20_475);
     Ok(())
 }

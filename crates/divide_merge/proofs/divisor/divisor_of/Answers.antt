@@ -1,4 +1,4 @@
-use Rattle.std.proofs.Common.{◌≡◌, ◌∙◌, refl, sym, ap, subst, ℕ, ℤ, MatchOption}
+use Rattle.std.proofs.Common.{◌∙◌, refl, sym, subst, ℕ, MatchOption}
 use Rattle.sdmp_laws.specs.Ring.{IsUnit, IsInverse}
 use Rattle.sdmp_laws.specs.Canonical.{IsCanonical}
 use Rattle.divide_merge.proofs.DivisorLemmas.{is_zero, leads, counted}

@@ -1,4 +1,4 @@
-use Rattle.std.proofs.Common.{◌≡◌, ◌∙◌, Some, None, Option, is_some, true≢false, ap, sym}
+use Rattle.std.proofs.Common.{◌≡◌, ◌∙◌, Some, Option, is_some, true≢false, ap, sym}
 use Rattle.divide_merge.specs.Inside.{answer_of}
 use Rattle.divide_merge.specs.Merges.{DivideView, verdict_of}
 use Rattle.divide_merge.specs.Reached.{divide_reached, Follows-itself}

@@ -1,4 +1,4 @@
-use Rattle.std.proofs.Common.{◌≡◌, ◌∙◌, length, sym, ap}
+use Rattle.std.proofs.Common.{◌∙◌, length, sym, ap}
 use Rattle.dividing_rounds.specs.Runs.{run_row}
 use Rattle.divide_merge.specs.Merges.{DivideView}
 use Rattle.divide_merge.proofs.Beginning.{renews, renewed_run}

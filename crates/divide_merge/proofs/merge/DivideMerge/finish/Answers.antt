@@ -1,4 +1,4 @@
-use Rattle.std.proofs.Common.{◌≡◌, ◌∙◌, ap}
+use Rattle.std.proofs.Common.{◌∙◌, ap}
 use Rattle.divide_merge.specs.Merges.{DivideView}
 use Rattle.divide_merge.proofs.Ending.{ending_as, gives, quotient_is, remainder_is}
 use Rattle.divide_merge.proofs.merge.DivideMerge.finish.Goals as goal

@@ -1,5 +1,3 @@
-use Rattle.std.proofs.Common.{◌≡◌, ◌∙◌, sym, ap, subst, List}
-use mathlib.Core.List.{IsPrefix}
 use Rattle.divide_merge.proofs.Meeting.{meets, own_reader, met_kept, met, met_owed, met_row}
 use Rattle.divide_merge.proofs.merge.DivideMerge.meet.Goals as goal
 

@@ -1,4 +1,4 @@
-use Rattle.std.proofs.Common.{◌≡◌, ◌∙◌, ◌<◌, ◌^◌, ℕ, List, [], length, map, vec_len, replicate, Option, None, Some, refl, ap, sym, subst}
+use Rattle.std.proofs.Common.{◌≡◌, ◌∙◌, ◌<◌, ◌^◌, ℕ, length, vec_len, replicate, Option, None, Some, refl, ap, sym, subst}
 use Rattle.sdmp_laws.specs.Canonical.{Polynomial, IsCanonical}
 use Rattle.division_laws.specs.Outcome.{division_of}
 use Rattle.dividing_rounds.specs.Runs.{run_start}

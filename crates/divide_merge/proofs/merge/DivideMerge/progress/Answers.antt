@@ -1,4 +1,4 @@
-use Rattle.std.proofs.Common.{◌≡◌, ◌∙◌, ◌+◌, ℕ, min, length, sym, ap}
+use Rattle.std.proofs.Common.{◌∙◌, ◌+◌, ℕ, min, length, sym, ap}
 use Rattle.std.proofs.lemmas.List.{length-map}
 use Rattle.canonical_terms.specs.View.{term_of}
 use Rattle.term_ring.specs.Names.{notes_count}

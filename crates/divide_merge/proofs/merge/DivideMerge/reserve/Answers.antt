@@ -1,4 +1,4 @@
-use Rattle.std.proofs.Common.{◌≡◌, ◌∙◌, List, length, sym, ap, refl, arith}
+use Rattle.std.proofs.Common.{◌∙◌, List, length, sym, ap, refl, arith}
 use Rattle.canonical_terms.specs.declared.term.TermOf.{TermOf}
 use Rattle.divide_merge.proofs.Reserving.{reserved, on_ok, fits_first, fits_second, fits_both}
 use Rattle.divide_merge.proofs.merge.DivideMerge.reserve.Goals as goal

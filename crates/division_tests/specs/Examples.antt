@@ -1,0 +1,14 @@
+-- The polynomials and the division of the tests.
+use Rattle.std.specs.Prelude.{ℕ, ℤ, List, [], ◌∷◌, pos}
+use Rattle.sdmp_laws.specs.Order.{Grlex}
+use Rattle.sdmp_laws.specs.Poly.{Term, terms}
+use Rattle.sdmp_laws.specs.Division.{Division}
+use Rattle.sdmp_laws.specs.declared.Mode.TheVariants.{Exact}
+
+-- a x^k + b
+abbrev pub two_terms : ℤ → ℕ → ℤ → List Term
+two_terms a k b = terms Grlex 0 (record { monomial = k ∷ []; coefficient = a } ∷ record { monomial = 0 ∷ []; coefficient = b } ∷ [])
+
+-- x^2 + 1 by x + 1
+abbrev pub square_and_one : Division
+square_and_one = record { mode = Exact; ord = Grlex; p = 0; n = 1; f = two_terms (pos 1) 2 (pos 1); g = two_terms (pos 1) 1 (pos 1) }
