@@ -19,10 +19,6 @@ use Rattle.divide_workers.specs.declared.stop.DivideStop.TheVariants.{Full}
 use Rattle.divide_workers.proofs.Working.{works_again}
 
 -- ---- what stays while it works
-pub rows_stay : (a b : WorkerView) → Works a b → HasRows a.state → HasRows b.state
-unfolding worker_rows
-rows_stay a b f r e = r (sym (λ i. worker_rows record { division = f.division i; workers = f.workers i; worker = f.sends.worker i; known = a.state.known; unread = a.state.unread; kept = a.state.kept; sent = a.state.sent }) ∙ e)
-
 pub works_then : (a b c d : WorkerView) → Works a b → Works b c → Works c d → Works a d
 works_then a b c d f g h = works_again a b d f (works_again b c d g h)
 
@@ -56,9 +52,6 @@ module _ {X M E : Type 0} where
   last_receipt name p q r (Some x) e b h = (let l = h.0 in omega (arith, e, l), h.1)
 
   -- its ring was full
-  pub stops_full : (name : DivideName) (a b c : WorkerView) (p q r : Pass DivideView) (x : Option (DivideAdvanced X M E)) → Works a b → IsRefused (sender_of c) → WasRefused (sender_of b) (sender_of c) → entries p ≤ entries q → busy p ≤ busy q → IsReceipt name patience q r x → IsStop name a c (Some p) (Some r) (Full x)
-  stops_full name a b c p q r x f full was e b' h = (full, let l = f.looks in omega (arith, l, was), last_receipt name p q r x e b' h)
-
   -- what it holds back when it has sent all it may (s) stays so when it has looked (k), pushed (n) and waited in vain (w)
   pub stops_waiting : (name : DivideName) (a s k n w : WorkerView) (p q r : Pass DivideView) (known : ℕ) (x : Option (DivideAdvanced X M E)) → Works a s → HoldsBack s → FindsNothing s k → Pushes k n → StaysUntold n w → known ≡ length w.state.known → entries p ≤ entries q → busy p ≤ busy q → IsReceipt name patience q r x
       → WaitsInVain name a w (Some p) (Some r) known x

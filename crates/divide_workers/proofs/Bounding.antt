@@ -47,11 +47,6 @@ all_fit lim m team z y s t working w l =
     let few : length v.state.known ≤ length m.run.state.q = known_few m v s.whole (t.told w y k).notes (t.current w y k).few in
     subst (NotesFit m.run.state) i.number (counted_fit m.run.state v.state (working w k).paid.paid d.0 d.1 (working w k).paid.counted (t.told w y k).taken few)
 
--- so many rounds at most, where each but the last raised its progress and all quotient terms are found
-pub within_bound : (lim : ℕ) (m : DivideView) (team : List WorkerView) (z : RingName) (y : WorkerView) (rounds : ℕ) → IsSound lim m → IsTeam m team → ((k : ℕ) → k < length team → IsWorking lim (slice_index_or team k y))
-    → m.run.state.q ≡ quotient_list m.run.state.division → rounds ≤ progress m.run + 1 → rounds ≤ rounds_bound m.run.state.division m.run.state.workers
-within_bound lim m team z y rounds s t working all few = rounds_fit m.run rounds s.some s.whole (all_fit lim m team z y s t working) all few
-
 -- ---- the last answer
 module _ (lim : ℕ) (m : DivideView) (s : IsSound lim m) where
   abbrev state : DivideState

@@ -1,7 +1,6 @@
 //! The rounds of a division.
 
 ghost use Rattle.std.specs.Prelude.{◌≡◌, ◌+◌, ◌*◌, ◌^◌, ◌<◌, ◌≤◌, length, min, max, map, All, [], vec_len, IfOk, Some};
-ghost use Rattle.sdmp_laws.specs.LongDivision.{quotient_list};
 ghost use Rattle.division_laws.specs.Outcome.{division_of};
 ghost use Rattle.term_ring.specs.Names.{ring_name};
 ghost use Rattle.quotient_row.specs.Ends.{known};
@@ -176,7 +175,7 @@ pub(crate) fn finish<T: Threads + Sync, R: CoeffRing, M: Monomial, G: Gate>(
     requires begun { progress merge.run ≡ 0 }
     ensures answer { IfOk result (λ e. e.merge.answer ≡ Some (verdict_of M.vector R.value e.last.answer)) }
     ensures rings { IfOk result (λ e. e.merge.rings ≡ merge.rings) }
-    ensures rounds { IfOk result (λ e. e.merge.run.state.q ≡ quotient_list merge.run.state.division → e.rounds ≤ rounds_bound merge.run.state.division merge.run.state.workers) }
+    ensures rounds { IfOk result (λ e. e.rounds ≤ rounds_bound merge.run.state.division merge.run.state.workers) }
     ensures terms { IfOk result (λ e. e.last.terms ≡ length e.merge.run.state.q) }
     ensures receipt { IfOk result (λ e. e.last.merge.value.run ≡ e.merge.run) }
 {

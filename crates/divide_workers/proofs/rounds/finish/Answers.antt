@@ -24,7 +24,7 @@ pub returns-in-Over-clause-answer : goal.returns-in-Over-clause-answer
 returns-in-Over-clause-answer g c = over_after c.reserve.new.self c.in_ok-next.next _ c.in_ok-next.ensures.round (sym c.next_after.ensures ∙ c.in-Over.is)
 
 pub returns-in-Over-clause-rounds : goal.returns-in-Over-clause-rounds
-returns-in-Over-clause-rounds g c = λ q.
+returns-in-Over-clause-rounds g c =
     let below = progress_within g.M.Monomial.LIM c.args.merge c.loop-row.merge (map (λ w. w.worker.sender) c.loop-row.workers) c.whole.ensures.sound c.whole-in-loop-row.ensures.sound c.loop-row.invariant.rings c.loop-row.invariant.team (each_has (IsWorking g.M.Monomial.LIM) (λ w. w.worker.sender) c.loop-row.workers c.all_whole.ensures) in
     let rounds = c.loop-row.invariant.rounds in
     let more = c.saturating_add-rounds.ensures in omega (arith, below, rounds, more)

@@ -76,14 +76,13 @@ returns-clause-rounds g c =
     let d = division_of c.args.job.now.mode g.M.Monomial.order g.M.Monomial.VARS c.args.job.now.f.now c.args.job.now.g.now in
     let m = c.in_ok-merge.merge in
     let e = c.in_ok-finished.finished in
-    let same = division_of_merge c.in_ok-rings.ensures.read g.M.Monomial.LIM e.merge c.requires.workers c.whole.ensures.sound (c.in_ok-finished.ensures.rings ∙ c.in_ok-merge.ensures.rings) in
     let first : m.run.state.division ≡ d = its_division m _ _ c.in_ok-merge.ensures.run in
     let long : vec_len c.in_ok-rings.field-0.readers ≡ length c.in_ok-rings.field-0.readers.items = (let k = c.in_ok-rings.field-0.readers.ok.0 in omega (arith, k)) in
     let count : m.run.state.workers ≡ c.args.workers = its_workers m _ _ c.in_ok-merge.ensures.run ∙ long ∙ readers_count c.in_ok-rings.ensures.read reader_name c.in_ok-rings.field-0.readers.items refl in
     from_both (λ a. a.rounds ≡ e.rounds) (λ _. e.merge.run.state.q ≡ quotient_list e.merge.run.state.division) (λ a. a.rounds ≤ rounds_bound d c.args.workers) c.answer.result
-    (λ a p found. subst (λ n. n ≤ rounds_bound d c.args.workers) (sym p)
+    (λ a p _. subst (λ n. n ≤ rounds_bound d c.args.workers) (sym p)
     (subst (λ (k : ℕ). e.rounds ≤ rounds_bound d k) count
-    (subst (λ (x : Division). e.rounds ≤ rounds_bound x m.run.state.workers) first (c.in_ok-finished.ensures.rounds (found ∙ ap quotient_list (same ∙ sym first))))))
+    (subst (λ (x : Division). e.rounds ≤ rounds_bound x m.run.state.workers) first c.in_ok-finished.ensures.rounds)))
     c.answer.ensures.rounds c.answer.ensures.found
 
 pub returns-clause-terms : goal.returns-clause-terms

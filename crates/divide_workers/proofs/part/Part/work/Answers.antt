@@ -2,7 +2,8 @@ use Rattle.std.proofs.Common.{◌≤◌, inr, arith}
 use Rattle.turnstile.specs.Passes.{made_with, entries, busy}
 use Rattle.divide_merge.specs.Reached.{divide_name}
 use Rattle.divide_workers.proofs.Working.{works_itself, works_again}
-use Rattle.divide_workers.proofs.Advancing.{rows_stay, works_then, fewer_untold, stops_waiting}
+use Rattle.divide_workers.proofs.Looking.{rows_stay}
+use Rattle.divide_workers.proofs.Advancing.{works_then, fewer_untold, stops_waiting}
 use Rattle.divide_workers.proofs.part.Part.work.Goals as goal
 
 pub loop-receipt-init : goal.loop-receipt-init
