@@ -1,21 +1,19 @@
 -- How an advance of a dividing worker goes on, and how it ends.
-use Rattle.std.proofs.Common.{◌≡◌, ℕ, ◌+◌, ◌-◌, ◌*◌, ◌^◌, ◌<◌, ◌≤◌, Fits, w64, List, [], ◌++◌, length, Option, Some, None, refl, sym, ap, ◌∙◌, subst, arith, length-append}
+use Rattle.std.proofs.Common.{◌≡◌, ℕ, ◌-◌, ◌*◌, ◌^◌, ◌<◌, ◌≤◌, Fits, w64, List, length, Option, Some, None, refl, sym, ap, subst, arith, length-append}
 use Rattle.std.proofs.Math.Nat.{mul-le-mul_right}
 use mathlib.Core.List.{IsPrefix}
 use Rattle.whole_laws.specs.Notes.{Script, Carry}
 use Rattle.turnstile.specs.declared.turn.Pass.{Pass}
 use Rattle.turnstile.specs.Passes.{entries, busy, patience}
 use Rattle.divide_wholes.specs.Workers.{worker_rows}
-use Rattle.term_ring.specs.Sending.{IsRefused, WasRefused}
 use Rattle.divide_merge.specs.Merges.{DivideView}
 use Rattle.divide_merge.specs.Reached.{DivideName}
 use Rattle.divide_merge.specs.declared.receipt.DivideAdvanced.{DivideAdvanced}
-use Rattle.divide_workers.specs.Paying.{HasRows, IsMarked}
-use Rattle.divide_workers.specs.Views.{WorkerView, sender_of}
+use Rattle.divide_workers.specs.Paying.{IsMarked}
+use Rattle.divide_workers.specs.Views.{WorkerView}
 use Rattle.divide_workers.specs.Working.{IsWorking}
 use Rattle.divide_workers.specs.Steps.{Works, FindsNothing, HoldsBack, Pushes}
-use Rattle.divide_workers.specs.Stops.{StaysUntold, IsReceipt, IsLastReceipt, WaitsInVain, IsStop}
-use Rattle.divide_workers.specs.declared.stop.DivideStop.TheVariants.{Full}
+use Rattle.divide_workers.specs.Stops.{StaysUntold, IsReceipt, IsLastReceipt, WaitsInVain}
 use Rattle.divide_workers.proofs.Working.{works_again}
 
 -- ---- what stays while it works

@@ -15,17 +15,15 @@ use Rattle.term_ring.specs.Names.{RingName}
 use Rattle.dividing_rounds.specs.Found.{IsNext}
 use Rattle.dividing_rounds.specs.Runs.{RunWhole}
 use Rattle.dividing_rounds.specs.Counting.{NotesFit}
-use Rattle.dividing_rounds.specs.Rounds.{progress}
 use Rattle.dividing_rounds.specs.Stalls.{GoesOn}
 use Rattle.dividing_rounds.proofs.WorkloadLemmas.{candidate_last}
 use Rattle.dividing_rounds.proofs.CountingLemmas.{counted_fit}
 use Rattle.dividing_rounds.proofs.StallLemmas.{nobody_stuck}
-use Rattle.dividing_rounds.proofs.RoundLemmas.{rounds_fit}
 use Rattle.divide_merge.specs.Verdicts.{IsPresentAt, IsTermDue, with_term, Finishes, HasNone, PassesNorm, PassesCount, IsVerdict}
 use Rattle.divide_merge.specs.Merges.{DivideView, IsSound}
 use Rattle.divide_workers.specs.Views.{WorkerView}
 use Rattle.divide_workers.specs.Working.{IsWorking}
-use Rattle.divide_workers.specs.Rounds.{IsTeam, rounds_bound}
+use Rattle.divide_workers.specs.Rounds.{IsTeam}
 use Rattle.divide_workers.proofs.Working.{more_terms}
 use Rattle.divide_workers.proofs.Hearing.{its_division}
 

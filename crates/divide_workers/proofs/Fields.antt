@@ -1,7 +1,6 @@
 -- The fields of a dividing worker, and what it sees of itself, at each of its steps.
-use Rattle.std.proofs.Common.{◌≡◌, ◌≢◌, ◌⊎◌, inl, inr, ℕ, ◌+◌, ◌*◌, ◌<◌, ◌≤◌, Bool, true, false, true≢false, IsTrue, ◌↔◌, ℤ, pos, cond, List, [], ◌∷◌, ◌++◌, get_or, length, max, Option, Some, None, Result, Ok, Err, IfErr, MatchOption, refl, sym, ap, ◌∙◌, subst, arith, All, IsPermutation, append-nil, append_assoc, length-append}
-use Rattle.std.specs.List.{Contains}
-use Rattle.std.proofs.lemmas.List.Elements.{All-nil, All-cons, All-head, All-tail, All-weaker, All-contains}
+use Rattle.std.proofs.Common.{◌≡◌, ◌≢◌, inl, inr, ℕ, ◌+◌, ◌*◌, ◌<◌, ◌≤◌, Bool, true, false, ℤ, pos, cond, List, [], ◌∷◌, ◌++◌, get_or, length, Option, Some, None, Result, Ok, Err, IfErr, MatchOption, refl, sym, ap, ◌∙◌, subst, arith, All, IsPermutation, append-nil, append_assoc, length-append}
+use Rattle.std.proofs.lemmas.List.Elements.{All-nil, All-cons, All-head, All-weaker, All-contains}
 use Rattle.std.proofs.lemmas.List.Sorted.{All-permutation, IsPermutation-sym, length_permutation}
 use Rattle.std.proofs.lemmas.List.{map-append, length-map}
 use mathlib.Core.List.{IsPrefix}
@@ -25,7 +24,7 @@ use Rattle.divide_wholes.specs.Workers.{WorkerState, IsUnreadTop, worker_rows, w
 use Rattle.divide_wholes.proofs.MarkLemmas.{worker_start}
 use Rattle.divide_wholes.proofs.Candidate.{quotient_poly}
 use Rattle.divide_core.proofs.DividingSteps.{not_passed}
-use Rattle.row_merge.specs.Learned.{QuotientState, IsGreatest, TakesOut, HandOut}
+use Rattle.row_merge.specs.Learned.{QuotientState, IsGreatest, HandOut}
 use Rattle.row_merge.proofs.LearnedRows.{lead_degree}
 use Rattle.canonical_terms.specs.View.{term_of, sum_of}
 use Rattle.canonical_terms.specs.declared.term.TermOf.{TermOf}
@@ -47,9 +46,8 @@ use Rattle.quotient_row.specs.Spelling.{notes_of as row_notes_of}
 use Rattle.quotient_row.specs.declared.note.RowNoteOf.{RowNoteOf}
 use Rattle.quotient_row.specs.declared.row.RowReader.{RowReader}
 use Rattle.divide_workers.specs.Fronts.{PlainFront, front_of, plain_front, vector_of, IsPastBy, UnderBy, IsAhead, IsPast, FrontFalls}
-use Rattle.divide_workers.specs.Paying.{HasRows}
 use Rattle.divide_workers.specs.Views.{WorkerView, script_workers}
-use Rattle.divide_workers.specs.Working.{IsWorking, HasRoom}
+use Rattle.divide_workers.specs.Working.{IsWorking}
 use Rattle.divide_workers.specs.Inside.{view_of, mark_of, kept_terms, KeptBelongs, IsSender}
 use Rattle.divide_workers.specs.Steps.{Works, HandsOut, IsFrontier, MayHand, IsMarkOf, Pushes, Refuses, LearnsMore, IsNextTerm, IsBegun, IsFrontOf}
 use Rattle.divide_workers.specs.Learning.{Learns}

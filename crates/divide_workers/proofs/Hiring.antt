@@ -1,16 +1,15 @@
 -- A team that has sent nothing, and its merge.
-use Rattle.std.proofs.Common.{◌≡◌, ◌≢◌, ◌⊎◌, inl, ℕ, zero, suc, ◌+◌, ◌<◌, ◌≤◌, List, [], ◌∷◌, ◌++◌, length, drop, get_or, slice_index_or, map, replicate, Option, Some, None, MatchOption, Bool, true, false, true≢false, ℤ, All, refl, sym, ap, ◌∙◌, subst, arith, length-append}
+use Rattle.std.proofs.Common.{◌≡◌, ◌≢◌, inl, ℕ, zero, suc, ◌+◌, ◌<◌, ◌≤◌, List, [], ◌∷◌, ◌++◌, length, drop, get_or, slice_index_or, map, replicate, Option, Some, None, MatchOption, Bool, false, true≢false, ℤ, All, refl, sym, ap, ◌∙◌, subst, arith, length-append}
 use Rattle.std.proofs.lemmas.List.{map-append, length-map}
 use Rattle.std.proofs.Math.ListN.{get_or-append}
 use Rattle.std.proofs.lemmas.List.Folds.{sum_by-replicate}
 use Rattle.std.proofs.Math.Seq.{get_or-append_seam}
 use Rattle.std.specs.Option.{is_some}
-use mathlib.Core.List.{IsPrefix}
 use mathlib.Core.Logic.{dite}
 use native.Mathlib.Decide.{ℕ_discrete}
 use Rattle.sdmp_laws.specs.Poly.{Term, every}
 use Rattle.sdmp_laws.specs.Division.{Division}
-use Rattle.whole_laws.specs.Notes.{Note, Script, QuotientScript, after_lead, divisor_rows}
+use Rattle.whole_laws.specs.Notes.{Note, QuotientScript, after_lead, divisor_rows}
 use Rattle.whole_laws.specs.Wholes.{notes_of as notes_at}
 use Rattle.divide_wholes.specs.Wholes.{divide_start}
 use Rattle.divide_wholes.specs.Row.{row_terms}
@@ -31,10 +30,10 @@ use Rattle.quotient_row.specs.Spelling.{notes_of as row_notes_of}
 use Rattle.quotient_row.specs.declared.row.RowReader.{RowReader}
 use Rattle.divide_merge.specs.Names.{RowIdentity, row_identity, reader_row, HasScripts, script_division, first_division}
 use Rattle.divide_merge.specs.Merges.{DivideView, taken_of, IsSound}
-use Rattle.divide_workers.specs.Fronts.{PlainFront, front_mono}
+use Rattle.divide_workers.specs.Fronts.{front_mono}
 use Rattle.divide_workers.specs.Views.{WorkerView, script_workers}
 use Rattle.divide_workers.specs.Inside.{view_of}
-use Rattle.divide_workers.specs.Rounds.{IsMember, AreMembers, AreRead, IsFresh, HasHeard, IsUpToDate, IsTeam, HasPlace}
+use Rattle.divide_workers.specs.Rounds.{AreMembers, AreRead, IsFresh, HasHeard, IsUpToDate, IsTeam, HasPlace}
 
 -- ---- one worker
 pub its_rows : (g : List Term) (W w : ℕ) → every W w 1 (drop 1 g) ≡ divisor_rows g W w

@@ -1,5 +1,5 @@
 -- What a worker knows of the quotient terms to come, and which of its sums it may send.
-use Rattle.std.specs.Prelude.{◌≡◌, ℕ, Bool, true, false, List, Option, Some, None}
+use Rattle.std.specs.Prelude.{ℕ, Bool, true, false, List, Option, Some, None}
 use Rattle.sdmp_laws.specs.Order.{Order, ◌⋅◌, Below}
 use Rattle.sdmp_laws.specs.Poly.{Term, lm}
 use Rattle.sdmp_laws.specs.Division.{Division, AtOrAbove}

@@ -1,7 +1,7 @@
 -- How a note of the row is taken in.
 use Rattle.std.specs.Prelude.{◌≡◌, ℕ, ◌+◌, ◌*◌, ◌<◌, ◌≤◌, true, false, ℤ, List, [], ◌∷◌, ◌++◌, length, IsPermutation}
 use Rattle.sdmp_laws.specs.Order.{Order, ◌⋅◌, degree}
-use Rattle.sdmp_laws.specs.Poly.{Term, norm, row, Decreasing, lm}
+use Rattle.sdmp_laws.specs.Poly.{norm, row, Decreasing, lm}
 use Rattle.sdmp_laws.specs.Limits.{greatest_norm}
 use Rattle.canonical_terms.specs.View.{term_of}
 use Rattle.canonical_terms.specs.declared.term.TermOf.{TermOf}

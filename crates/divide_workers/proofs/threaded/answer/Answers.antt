@@ -1,4 +1,4 @@
-use Rattle.std.proofs.Common.{◌≡◌, List, sym, subst, ◌∙◌}
+use Rattle.std.proofs.Common.{List, sym, subst, ◌∙◌}
 use Rattle.sdmp_laws.specs.Poly.{Term}
 use Rattle.division_laws.specs.Outcome.{IsOutcome, HasQuotient, HasRemainder}
 use Rattle.divide_core.specs.Answer.{IsAnswer}

@@ -1,6 +1,5 @@
 use Rattle.std.proofs.Common.{◌≡◌, ◌≢◌, ◌<◌, ◌⊎◌, ℕ, ℤ, length, true≢false, sym, subst, ◌∙◌}
 use Rattle.sdmp_laws.specs.Ring.{IsUnit}
-use Rattle.sdmp_laws.specs.Poly.{lc}
 use Rattle.sdmp_laws.specs.declared.Mode.TheVariants.{Remainder}
 use Rattle.row_merge.proofs.LearnedRows.{positive_from}
 use Rattle.division_laws.specs.Outcome.{IsOutcome}

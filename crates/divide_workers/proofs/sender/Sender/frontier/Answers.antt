@@ -1,9 +1,8 @@
-use Rattle.std.proofs.Common.{◌≡◌, [], None, Some, refl, sym, ap, subst, ◌∙◌, arith}
+use Rattle.std.proofs.Common.{None, Some, refl, sym, ap, subst, ◌∙◌, arith}
 use Rattle.sdmp_laws.specs.Order.{◌⋅◌, degree}
 use Rattle.sdmp_laws.specs.Poly.{lm}
 use Rattle.divide_workers.specs.Fronts.{plain_front, front_of}
 use Rattle.divide_workers.specs.Inside.{view_of}
-use Rattle.divide_workers.specs.Views.{WorkerView}
 use Rattle.divide_workers.specs.Steps.{IsFrontier}
 use Rattle.divide_workers.proofs.Holding.{held_without_front, held_without_rows, held_above, first_low, frontier_none, frontier_some}
 use Rattle.divide_workers.proofs.sender.Sender.frontier.Goals as goal

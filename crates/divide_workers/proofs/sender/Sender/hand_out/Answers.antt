@@ -1,4 +1,4 @@
-use Rattle.std.proofs.Common.{◌≡◌, [], Some, length, true≢false, sym, ap, subst, ◌∙◌, arith}
+use Rattle.std.proofs.Common.{Some, length, true≢false, sym, ap, subst, ◌∙◌, arith}
 use Rattle.canonical_terms.specs.View.{term_of}
 use Rattle.divide_workers.specs.Inside.{view_of}
 use Rattle.divide_workers.specs.Views.{WorkerView}

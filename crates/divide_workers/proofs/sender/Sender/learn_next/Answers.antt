@@ -1,4 +1,4 @@
-use Rattle.std.proofs.Common.{◌≡◌, true, Some, refl, sym, ap, subst, ◌∙◌, arith}
+use Rattle.std.proofs.Common.{true, sym, ap, subst, arith}
 use Rattle.sdmp_laws.specs.Order.{degree}
 use Rattle.canonical_terms.specs.View.{term_of}
 use Rattle.divide_workers.specs.Fronts.{PlainFront, front_of}

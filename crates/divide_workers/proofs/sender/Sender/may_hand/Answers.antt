@@ -1,5 +1,5 @@
-use Rattle.std.proofs.Common.{◌≡◌, None, Some, true≢false, sym, ap, subst, ◌∙◌, arith}
-use Rattle.sdmp_laws.specs.Order.{◌⋅◌, degree}
+use Rattle.std.proofs.Common.{None, Some, true≢false, sym, ap, subst, ◌∙◌, arith}
+use Rattle.sdmp_laws.specs.Order.{degree}
 use Rattle.divide_workers.specs.Fronts.{plain_front, front_of}
 use Rattle.divide_workers.specs.Inside.{view_of}
 use Rattle.divide_workers.specs.Steps.{IsAllHeld, IsFrontier, MayHand}

@@ -1,4 +1,4 @@
-use Rattle.std.proofs.Common.{[], refl, sym, ap, ◌∙◌}
+use Rattle.std.proofs.Common.{refl, sym, ap, ◌∙◌}
 use Rattle.sdmp_laws.specs.Poly.{lm}
 use Rattle.divide_workers.proofs.Fields.{begins, lead_first, divisor_some}
 use Rattle.divide_workers.proofs.sender.Sender.new.Goals as goal

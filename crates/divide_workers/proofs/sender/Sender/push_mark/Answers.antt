@@ -1,5 +1,4 @@
-use Rattle.std.proofs.Common.{◌≡◌, None, IfErr, true≢false, sym, ap, subst, ◌∙◌}
-use Rattle.canonical_terms.specs.View.{term_of}
+use Rattle.std.proofs.Common.{IfErr, true≢false, sym, ap, subst, ◌∙◌}
 use Rattle.term_ring.specs.Ends.{places_of}
 use Rattle.term_ring.specs.declared.note.NoteOf.TheVariants as note
 use Rattle.divide_workers.specs.Inside.{view_of, mark_of}

@@ -1,10 +1,9 @@
-use Rattle.std.proofs.Common.{◌≡◌, None, IfErr, true≢false, sym, ap, subst, ◌∙◌}
-use Rattle.canonical_terms.specs.View.{term_of}
+use Rattle.std.proofs.Common.{None, IfErr, ap, subst, ◌∙◌}
 use Rattle.term_ring.specs.Ends.{places_of}
 use Rattle.term_ring.specs.declared.note.NoteOf.TheVariants as note
-use Rattle.divide_workers.specs.Inside.{view_of, mark_of}
+use Rattle.divide_workers.specs.Inside.{view_of}
 use Rattle.divide_workers.specs.Views.{WorkerView}
-use Rattle.divide_workers.specs.Steps.{IsMarkOf, Pushes, Refuses}
+use Rattle.divide_workers.specs.Steps.{Pushes, Refuses}
 use Rattle.divide_workers.proofs.Fields.{if_err, name_stays, carries_own, may_send_kept, kept_sent, pushes_term, refuses}
 use Rattle.divide_workers.proofs.sender.Sender.push_term.Goals as goal
 

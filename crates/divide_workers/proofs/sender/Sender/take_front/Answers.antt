@@ -1,6 +1,6 @@
-use Rattle.std.proofs.Common.{◌≡◌, false, Some, refl, sym, ap, subst, ◌∙◌}
+use Rattle.std.proofs.Common.{false, Some, sym, ap, subst}
 use Rattle.dividing_rounds.specs.Stalls.{IsLowered}
-use Rattle.divide_workers.specs.Fronts.{vector_of, plain_front, front_of, front_mono}
+use Rattle.divide_workers.specs.Fronts.{vector_of, front_of, front_mono}
 use Rattle.divide_workers.specs.Inside.{view_of}
 use Rattle.divide_workers.specs.Views.{WorkerView}
 use Rattle.divide_workers.specs.Steps.{IsFrontOf, LearnsMore}

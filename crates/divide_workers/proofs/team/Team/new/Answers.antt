@@ -1,4 +1,4 @@
-use Rattle.std.proofs.Common.{rules, ◌≡◌, ◌<◌, [], map, sym, subst, ◌∙◌, arith}
+use Rattle.std.proofs.Common.{rules, ◌≡◌, [], map, subst, ◌∙◌, arith}
 use Rattle.division_laws.specs.Outcome.{division_of}
 use Rattle.term_ring.specs.Ends.{taken}
 use Rattle.term_ring.specs.Names.{ring_name, reader_name, IsReading}
