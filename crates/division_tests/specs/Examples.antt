@@ -1,5 +1,5 @@
 -- The polynomials and the division of the tests.
-use Rattle.std.specs.Prelude.{ℕ, ℤ, List, [], ◌∷◌, pos}
+use Rattle.std.specs.Prelude.{ℕ, ℤ, List, [], ◌∷◌, pos, negsuc}
 use Rattle.sdmp_laws.specs.Order.{Grlex}
 use Rattle.sdmp_laws.specs.Poly.{Term, terms}
 use Rattle.sdmp_laws.specs.Division.{Division}
@@ -12,3 +12,10 @@ two_terms a k b = terms Grlex 0 (record { monomial = k ∷ []; coefficient = a }
 -- x^2 + 1 by x + 1
 abbrev pub square_and_one : Division
 square_and_one = record { mode = Exact; ord = Grlex; p = 0; n = 1; f = two_terms (pos 1) 2 (pos 1); g = two_terms (pos 1) 1 (pos 1) }
+
+-- the terms of its quotient before a remainder of 2
+abbrev pub x_term : Term
+x_term = record { monomial = 1 ∷ []; coefficient = pos 1 }
+
+abbrev pub minus_one : Term
+minus_one = record { monomial = 0 ∷ []; coefficient = negsuc 0 }

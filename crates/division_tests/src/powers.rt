@@ -6,7 +6,7 @@ use crate::polys::{Power, is_same};
 use crate::sums::{power_and_next, times};
 use coeff_ring::Integers;
 use divide_core::Division;
-use divide_workers::divide;
+use divide_workers::{Divided, divide};
 use sdmp_laws::Mode;
 use std::alloc::Global;
 use std::test::Fail;
@@ -66,11 +66,18 @@ fn divides_back<T: Threads + Sync>(
         1024,
         &OpenGate,
     )?;
-    let Division::Quotient(quotient) = divided.answer else {
-        return Err(Fail::from("no quotient"));
+    let Divided {
+        answer,
+        rounds: _,
+        last,
+    } = divided;
+    let quotient = match answer {
+        Division::Quotient(q) => q,
+        Division::NoQuotient => return Err(Fail::from("no quotient")),
+        Division::Remainder { q: _q, r: _r } => return Err(Fail::from("a remainder")),
     };
     let terms = next.terms().len();
-    let right = is_same(&quotient, &next) && divided.last.terms() == terms as u64;
+    let right = is_same(&quotient, &next) && last.terms() == terms as u64;
     Ok(
         right
             .then_some(whole.terms().len())
