@@ -21,5 +21,3 @@ mod powers;
 mod stalls;
 #[cfg(test)]
 mod sums;
-#[cfg(test)]
-mod workers;
