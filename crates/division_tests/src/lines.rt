@@ -36,9 +36,3 @@ pub fn binomial(
     ];
     Ok(Poly::from_terms(alloc, Integers, terms.to_vec(alloc)?)?)
 }
-
-/// The exponent and the coefficient of the term at this place.
-pub fn shown(poly: &Poly<Integers, Line>, place: usize) -> Option<(u32, i128)> {
-    let term = poly.terms().get(place)?;
-    Some((term.mono.exponent(0), term.coef))
-}
