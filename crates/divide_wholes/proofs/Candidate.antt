@@ -85,7 +85,7 @@ script_poly d W w a =
     terms_poly d.ord d.p d.n (times (quotient_list d) (divisor_rows d.g W w))
     (Over-times d.n (quotient_list d) (divisor_rows d.g W w) (quotient_poly d a).vectors (rows_over d W w a))
 
-script_total : (d : Division) (W w : ℕ) (x : List ℕ) → red d.p (total (script_list (QuotientScript d W w)) x) ≡ red d.p (total (times (quotient_list d) (divisor_rows d.g W w)) x)
+pub script_total : (d : Division) (W w : ℕ) (x : List ℕ) → red d.p (total (script_list (QuotientScript d W w)) x) ≡ red d.p (total (times (quotient_list d) (divisor_rows d.g W w)) x)
 unfolding script_list
 script_total d W w x = same_total d.p (terms d.ord d.p (times (quotient_list d) (divisor_rows d.g W w))) (times (quotient_list d) (divisor_rows d.g W w)) (terms_same d.ord d.p (times (quotient_list d) (divisor_rows d.g W w))) x
 

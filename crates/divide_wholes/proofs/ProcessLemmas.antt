@@ -28,7 +28,7 @@ use Rattle.sdmp_laws.proofs.Merging.{Proper-push, Over-push}
 
 -- ---- lists without their terms at x
 -- below x nothing goes
-without_below : (ord : Order) (x : List ℕ) (A : List Term) → AllBelow ord x A → without x A ≡ A
+pub without_below : (ord : Order) (x : List ℕ) (A : List Term) → AllBelow ord x A → without x A ≡ A
 unfolding AllBelow without
 without_below ord x [] h = refl
 without_below ord x (t ∷ A) h =

@@ -48,7 +48,7 @@ rest_below : (ord : Order) (m : List ℕ) (t : Term) (A : List Term) → AllBelo
 unfolding AllBelow
 rest_below ord m t A h = h.1
 
-first_is_below : (ord : Order) (m : List ℕ) (t : Term) (A : List Term) → AllBelow ord m (t ∷ A) → Below ord t.monomial m
+pub first_is_below : (ord : Order) (m : List ℕ) (t : Term) (A : List Term) → AllBelow ord m (t ∷ A) → Below ord t.monomial m
 unfolding AllBelow
 first_is_below ord m t A h = h.0
 

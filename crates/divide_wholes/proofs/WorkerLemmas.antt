@@ -14,7 +14,7 @@ use Rattle.sdmp_laws.proofs.PolyLemmas.{total_minus}
 use Rattle.sdmp_laws.proofs.TermsLemmas.{total_nil, total_above, nothing_below, head_facts, tail_poly}
 use Rattle.sdmp_laws.proofs.DivisionLemmas.{AllBelow-append, length_lm}
 use Rattle.sdmp_laws.proofs.LongLemmas.{Over-times}
-use Rattle.sdmp_laws.proofs.NextTerm.{at_then_below, below_then_at, back_poly, next_term}
+use Rattle.sdmp_laws.proofs.NextTerm.{at_then_below, below_then_at, back_poly, next_term, times_at, below_at}
 use Rattle.sdmp_laws.proofs.ListLemmas.{Decreasing-every}
 use Rattle.divide_wholes.proofs.Candidate.{quotient_poly, rows_over, times_split, times_nothing}
 
@@ -27,10 +27,6 @@ below_back ord a b c l h = pick (below_total ord a b l)
     pick (is_less k) = k
     pick (is_equal e) = absurd ((order_facts ord).irreflexive (a ⋅ c) (subst (λ (v : List ℕ). Below ord (a ⋅ c) (v ⋅ c)) (sym e) h))
     pick (is_greater k) = absurd ((order_facts ord).irreflexive (a ⋅ c) ((order_facts ord).transitive (a ⋅ c) (b ⋅ c) (a ⋅ c) h ((order_facts ord).compatible b a c (sym l) k)))
-
-times_at : (ord : Order) (a b c : List ℕ) → length a ≡ length b → AtOrAbove ord a b → AtOrAbove ord (a ⋅ c) (b ⋅ c)
-times_at ord a b c l (inl e) = inl (ap (λ (v : List ℕ). v ⋅ c) e)
-times_at ord a b c l (inr h) = inr ((order_facts ord).compatible a b c l h)
 
 times_at_left : (ord : Order) (a b c : List ℕ) → length a ≡ length b → AtOrAbove ord a b → AtOrAbove ord (c ⋅ a) (c ⋅ b)
 times_at_left ord a b c l h = subst₂ (λ (v w : List ℕ). AtOrAbove ord v w) (times_comm a c) (times_comm b c) (times_at ord a b c l h)
@@ -89,17 +85,12 @@ times_below_x ord n r x [] B lr h o k = nothing_below ord x
 times_below_x ord n r x (t ∷ A) B lr h o k = AllBelow-append ord x (row t B) (times A B) (row_below_x ord n t r x B lr h.0 o k) (times_below_x ord n r x A B lr h.1 o k)
 
 -- ---- the rows of a worker
-below_at : (ord : Order) (m : List ℕ) (B : List Term) → AllBelow ord m B → AllAtOrBelow ord m B
-unfolding AllBelow AllAtOrBelow
-below_at ord m [] h = tt
-below_at ord m (t ∷ B) h = (inr h.0, below_at ord m B h.1)
-
 lower_decreasing : (ord : Order) (g : List Term) → Decreasing ord g → Decreasing ord (after_lead g)
 unfolding Decreasing after_lead
 lower_decreasing ord [] h = tt
 lower_decreasing ord (t ∷ g) h = h.1
 
-rows_decreasing : (d : Division) (W w : ℕ) → IsAccepted d → Decreasing d.ord (divisor_rows d.g W w)
+pub rows_decreasing : (d : Division) (W w : ℕ) → IsAccepted d → Decreasing d.ord (divisor_rows d.g W w)
 unfolding divisor_rows
 rows_decreasing d W w a = Decreasing-every d.ord W w 1 (after_lead d.g) (lower_decreasing d.ord d.g a.divisor.decreasing)
 

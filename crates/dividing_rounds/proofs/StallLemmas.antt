@@ -48,7 +48,7 @@ within_at ord m x (t ∷ A) h k = pick (λ l. within_at ord m x A h.1 l) (or_out
     pick ih (inl e) = subst (λ (v : List ℕ). AtOrAbove ord v m) (alike_same t.monomial x e) h.0
     pick ih (inr l) = ih l
 
-nothing_within : (ord : Order) (m : List ℕ) (A : List Term) → A ≡ [] → AllAtOrBelow ord m A
+pub nothing_within : (ord : Order) (m : List ℕ) (A : List Term) → A ≡ [] → AllAtOrBelow ord m A
 unfolding AllAtOrBelow
 nothing_within ord m A e = subst (λ (L : List Term). AllAtOrBelow ord m L) (sym e) tt
 
@@ -252,7 +252,7 @@ unfolding TopWithin
 within_one ord x t None e a = tt
 within_one ord x t (Some u) e a = subst (λ (v : Option (List ℕ)). TopWithin ord x v) (sym e) a
 
-within_none : (ord : Order) (x : List ℕ) (top : Option (List ℕ)) → top ≡ None → TopWithin ord x top
+pub within_none : (ord : Order) (x : List ℕ) (top : Option (List ℕ)) → top ≡ None → TopWithin ord x top
 unfolding TopWithin
 within_none ord x None e = tt
 within_none ord x (Some u) e = absurd (cc e)

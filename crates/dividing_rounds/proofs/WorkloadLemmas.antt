@@ -162,7 +162,7 @@ unfolding lm AllBelow Over
 first_lower ord n l [] s b o = absurd (s refl)
 first_lower ord n l (t ∷ R) s b o = (b.0, o.0)
 
-script_none : (d : Division) (W w : ℕ) → divisor_rows d.g W w ≡ [] → script_list (QuotientScript d W w) ≡ []
+pub script_none : (d : Division) (W w : ℕ) → divisor_rows d.g W w ≡ [] → script_list (QuotientScript d W w) ≡ []
 script_none d W w e = sym (all_of_it (QuotientScript d W w)) ∙ no_rows_owe d W w [] e
 
 -- the empty list has no monomial

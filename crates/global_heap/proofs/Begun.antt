@@ -63,7 +63,7 @@ ended_by vector value hs w notes head.Missing e f none end = absurd (after_end e
 ended_by vector value hs w notes (head.Term t) e f none end = absurd (no_head (plain_heads vector value hs) w _ none (get_or-map (plain vector value) hs w head.Missing ∙ ap (plain vector value) e))
 ended_by vector value hs w notes head.Ended e f none end = refl
 
-no_count : (k : ℕ) → notes_count (replicate k []) ≡ 0
+pub no_count : (k : ℕ) → notes_count (replicate k []) ≡ 0
 no_count zero = refl
 no_count (suc k) = let i = no_count k in let c = sum_by-cons (λ (n : List Note). length n) [] (replicate k []) in omega arith
 

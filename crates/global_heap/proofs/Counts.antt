@@ -2,6 +2,7 @@
 use Rattle.std.proofs.Common.{◌≡◌, ℕ, zero, suc, ◌+◌, ◌*◌, ◌%◌, ◌^◌, ◌<◌, ◌≤◌, Bool, true, false, cond, eqb, sum_by, List, [], ◌∷◌, ◌++◌, length, get_or, Option, refl, sym, ap, subst, arith, length-append, append-nil, append_assoc}
 use Rattle.std.proofs.Math.Nat.{mul-le-mul}
 use Rattle.std.proofs.lemmas.List.Sums.{sum_by-cons}
+use Rattle.std.proofs.lemmas.Bool.{ne_eqb}
 use mathlib.Core.List.{IsPrefix}
 use Rattle.sdmp_laws.specs.Order.{Order, alike, is_below}
 use Rattle.sdmp_laws.specs.Ring.{red}
@@ -53,11 +54,8 @@ ones_from : ℕ → ℕ → ℕ → ℕ → ℕ
 ones_from c x w zero = 0
 ones_from c x w (suc k) = bit (eqb c w) x + ones_from c x (suc w) k
 
-eqb_other : (a b : ℕ) → (a ≡ b → ⊥) → eqb a b ≡ false
-eqb_other a b n = grind arith
-
 no_one : (c x w : ℕ) → (c ≡ w → ⊥) → bit (eqb c w) x ≡ 0
-no_one c x w n = ap (λ (b : Bool). bit b x) (eqb_other c w n)
+no_one c x w n = ap (λ (b : Bool). bit b x) (ne_eqb c w n)
 
 one_le : (b : Bool) (x : ℕ) → bit b x ≤ x
 one_le true x = omega arith

@@ -92,7 +92,7 @@ script_norm m W w i =
     let l = norm_times (every W w 0 m.f) m.g in
     omega arith
 
-norm_is : (A : List Term) → sum_by size A ≡ norm A
+pub norm_is : (A : List Term) → sum_by size A ≡ norm A
 unfolding norm
 norm_is A = refl
 

@@ -17,7 +17,7 @@ use Rattle.global_heap.specs.Merges.{MergeView, taken_of}
 use Rattle.global_heap.specs.Moments.{all_parts, RingMoment, IsRingOf, ProductAtEachMoment, ProductWhileNobodyHolds}
 
 -- a sum whose parts are split one by one
-sum_split : (m : List ℕ) (F A B : ℕ → List Term) (k : ℕ) → ((w : ℕ) → w < k → F w ≡ A w ++ B w) → total (sum_over k A) m +ℤ total (sum_over k B) m ≡ total (sum_over k F) m
+pub sum_split : (m : List ℕ) (F A B : ℕ → List Term) (k : ℕ) → ((w : ℕ) → w < k → F w ≡ A w ++ B w) → total (sum_over k A) m +ℤ total (sum_over k B) m ≡ total (sum_over k F) m
 unfolding sum_over
 sum_split m F A B zero h = omega (arith, ints, total_nil m)
 sum_split m F A B (suc k) h =
@@ -32,11 +32,11 @@ sum_split m F A B (suc k) h =
     )
 
 -- of a worker: what was sent may be sent, and is what was taken and what is inside
-record IsShared (s : Script) (taken inside sent : List Note) : Type 0 where
+pub record IsShared (s : Script) (taken inside sent : List Note) : Type 0 where
   pub carried : Carry s sent
   pub sent_is : sent ≡ taken ++ inside
 
-owed_is : (s : Script) (taken inside sent : List Note) → IsShared s taken inside sent → owed s taken ≡ terms_in inside ++ owed s sent
+pub owed_is : (s : Script) (taken inside sent : List Note) → IsShared s taken inside sent → owed s taken ≡ terms_in inside ++ owed s sent
 owed_is s taken inside sent h =
     subst (λ z. owed s taken ≡ terms_in inside ++ owed s z) (sym h.sent_is) (owed_split s taken inside (subst (Carry s) h.sent_is h.carried))
 

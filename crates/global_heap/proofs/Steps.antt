@@ -8,6 +8,7 @@ use Rattle.whole_laws.specs.Notes.{Note, TermNote, MarkNote, EndNote, NoEnd}
 use Rattle.whole_laws.specs.Wholes.{MergeState, head_terms, notes_of, head_of_worker, merge_take}
 use Rattle.whole_laws.proofs.StepLemmas.{each_worker}
 use Rattle.term_ring.specs.Names.{NoneBelow, notes_count}
+use Rattle.term_ring.proofs.Lists.{prefix_self, prefix_trans}
 use Rattle.global_heap.specs.Merges.{MergeView, taken_of, IsWanting, IsServed, IsStarved, FoundEmpty, Grows, TakesNote, Looks, IsSound, IsStarving, Fills}
 
 -- ---- lists of numbers
@@ -34,17 +35,11 @@ NoneBelow-set a w n h = record {
 }
 
 -- ---- prefixes
-prefix_refl : {X : Type 0} (xs : List X) → IsPrefix xs xs
-prefix_refl xs = ([], append-nil xs)
-
-prefix_trans : {X : Type 0} (xs ys zs : List X) → IsPrefix xs ys → IsPrefix ys zs → IsPrefix xs zs
-prefix_trans xs ys zs p q = (p.0 ++ q.0, sym (append_assoc xs p.0 q.0) ∙ ap (λ (l : List _). l ++ q.0) p.1 ∙ q.1)
-
 -- ---- growing
 pub Grows-refl : (a : MergeView) → Grows a a
 Grows-refl a = record {
   rings = refl;
-  taken = λ w. prefix_refl (taken_of a w);
+  taken = λ w. prefix_self (taken_of a w);
   emitted = ([], sym (append-nil a.state.out), omega arith);
   tails = NoneBelow-refl a.tails;
   looks = NoneBelow-refl a.looks;
@@ -184,7 +179,7 @@ first_starved (Some s) i = Some s
 pub fill_misses : (a b c : MergeView) (i : ℕ) (o : Option ℕ) → Fills a b i o → Looks b c i → c.state ≡ b.state → IsStarved c i → FoundEmpty b c i → IsWanting b.state i → Fills a c (i + 1) (first_starved o i)
 fill_misses a b c i o f look same dry empty want =
     record {
-      grows = Grows-trans a b c f.grows (looked_grows b c i look (ap (λ (s : MergeState). s.out) same) (λ v. subst (λ (s : MergeState). IsPrefix (taken_of b v) (notes_of s.taken v)) (sym same) (prefix_refl (taken_of b v))));
+      grows = Grows-trans a b c f.grows (looked_grows b c i look (ap (λ (s : MergeState). s.out) same) (λ v. subst (λ (s : MergeState). IsPrefix (taken_of b v) (notes_of s.taken v)) (sym same) (prefix_self (taken_of b v))));
       out = ap (λ (s : MergeState). s.out) same ∙ f.out;
       spare = look.spare ∙ f.spare;
       product = ap (λ (s : MergeState). s.product) same ∙ f.product;

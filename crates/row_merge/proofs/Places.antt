@@ -93,7 +93,7 @@ pub record AreOrdered {M : Type 0} (vector : M → List ℕ) (ord : Order) (n : 
 gt_of : (r s : Ordering) → r ≡ s → is_gt r ≡ true → is_gt s ≡ false → ⊥
 gt_of r s e t f = true≢false (sym t ∙ ap is_gt e ∙ f)
 
-all_at_or_below : (ord : Order) (x : List ℕ) (A : List Term) → All (λ (u : Term). AtOrAbove ord u.monomial x) A → AllAtOrBelow ord x A
+pub all_at_or_below : (ord : Order) (x : List ℕ) (A : List Term) → All (λ (u : Term). AtOrAbove ord u.monomial x) A → AllAtOrBelow ord x A
 unfolding AllAtOrBelow
 all_at_or_below ord x [] h = tt
 all_at_or_below ord x (u ∷ A) h = (All-head (λ (v : Term). AtOrAbove ord v.monomial x) u A h, all_at_or_below ord x A (All-tail (λ (v : Term). AtOrAbove ord v.monomial x) u A h))
