@@ -10,6 +10,7 @@ use Rattle.sdmp_laws.specs.declared.Mode.{Mode}
 use Rattle.sdmp_laws.specs.declared.Mode.TheVariants.{Remainder}
 use Rattle.sdmp_laws.proofs.Parts.{norm_nil, norm_cons, norm_append}
 use Rattle.sdmp_laws.proofs.DivisionLemmas.{lead_nonzero}
+use Rattle.sdmp_laws.proofs.Merging.{one_norm}
 use Rattle.divide_wholes.specs.Wholes.{DivideState}
 use Rattle.dividing_rounds.specs.Found.{read_coef, term_at, Fits}
 use Rattle.divide_core.specs.Dividing.{IsTermQuotient}
@@ -19,10 +20,6 @@ use Rattle.divide_core.proofs.DividingSteps.{not_passed}
 use Rattle.divide_core.proofs.Loop.{bound_kept}
 use Rattle.divide_core.proofs.Ends.{no_fit_outside}
 use Rattle.divide_merge.proofs.Ending.{norm_some}
-
--- the norm of a quotient with one more term
-pub norm_more : (q : List Term) (t : Term) → norm (q ++ t ∷ []) ≡ norm q + unsigned_abs t.coefficient
-norm_more q t = let a = norm_append q (t ∷ []) in let b = norm_cons t [] in let c = norm_nil in omega arith
 
 -- a number that fits is a quotient of the term there, and conversely
 pub quotient_fits : (s : DivideState) (x : List ℕ) (t : Term) → IsTermQuotient s.division.p (lm s.division.g) (lc s.division.g) (record { monomial = x; coefficient = read_coef s x }) t → Fits s x t.coefficient
@@ -42,7 +39,7 @@ no_divides s x a r m none d =
 module _ (d : Division) (q : List Term) (t : Term) (a : IsAccepted d) (within : PassesBound d q → ⊥) (integers : Bool) (yes : IsTrue integers ↔ d.p ≡ 0) (f g n size count : ℕ)
     (ef : f ≡ norm d.f) (eg : g ≡ norm d.g) (en : d.p ≡ 0 → n ≡ norm q) (es : size ≡ unsigned_abs t.coefficient) (ec : count ≡ length q + 1) where
   more : d.p ≡ 0 → n + size ≡ norm (q ++ t ∷ [])
-  more z = let x = en z in let y = es in let m = norm_more q t in omega arith
+  more z = let x = en z in let y = es in let m = one_norm q t in omega arith
 
   counts : count ≡ length (q ++ t ∷ [])
   counts = let x = ec in let l = length-append q (t ∷ []) in omega arith

@@ -34,16 +34,13 @@ use Rattle.quotient_row.specs.Spelling.{notes_of as row_notes_of}
 use Rattle.quotient_row.specs.declared.row.RowWriter.{RowWriter}
 use Rattle.global_heap.specs.Inside.{merge_state}
 use Rattle.global_heap.specs.Names.{first_product}
-use Rattle.global_heap.proofs.Begun.{start_state}
+use Rattle.global_heap.proofs.Begun.{start_state, no_count}
 use Rattle.divide_merge.specs.Names.{writer_row, IsPublishing, script_division, first_division, HasScripts, IsFit}
 use Rattle.divide_merge.specs.Divisors.{IsDivisor}
 use Rattle.divide_merge.specs.Inside.{Held, answer_of, NotEnded, taken_notes, published_notes, divide_state, divide_run, divide_view, IsLatest, IsDivideMerge}
 use Rattle.divide_merge.specs.declared.divisor.Divisor.{Divisor}
 use Rattle.divide_merge.specs.declared.mark.Mark.{Mark}
 use Rattle.dividing_rounds.proofs.RunLemmas.{run_start_law, run_row_law}
-
-none_counted : (k : ℕ) → notes_count (replicate k []) ≡ 0
-none_counted k = let c = sum_by-replicate (λ (n : List Note). length n) k [] in omega arith
 
 no_mark : latest_mark [] ≡ (0, None)
 unfolding latest_mark mark_after
@@ -200,7 +197,7 @@ module _ {X M E : Type 0} (vector : M → List ℕ) (value : E → ℤ) (belongs
       whole = subst RunWhole (sym fresh_run) (run_start_law D (length rs) b.some not_passed);
       begun = ((λ e. omega arith), (λ e. refl));
       cause = tt;
-      counted = ap (λ (c : ℕ). min c 18446744073709551615) (sym (ap notes_count none_taken ∙ none_counted (length rs)));
+      counted = ap (λ (c : ℕ). min c 18446744073709551615) (sym (ap notes_count none_taken ∙ no_count (length rs)));
     }
       where
         no_notes : (v : ℕ) → v < length rs → IsLatest vector (record { known = 0; top = None }) (latest_mark (notes_at (replicate (length rs) []) v))

@@ -3,7 +3,7 @@ use Rattle.std.proofs.Common.{◌≡◌, ◌⊎◌, ◌↔◌, IsTrue, inl, inr,
 use Rattle.sdmp_laws.specs.Order.{Order, Below, IsUnder}
 use Rattle.sdmp_laws.specs.Poly.{Term}
 use Rattle.sdmp_laws.specs.Division.{AllAtOrBelow, AtOrAbove}
-use Rattle.sdmp_laws.proofs.NextTerm.{at_then_at}
+use Rattle.sdmp_laws.proofs.NextTerm.{at_then_at, at_both}
 use Rattle.whole_laws.specs.Notes.{has, AboveTop}
 use Rattle.whole_laws.specs.Wholes.{head_terms}
 use Rattle.whole_laws.proofs.StepLemmas.{each_worker}
@@ -11,8 +11,9 @@ use Rattle.divide_wholes.specs.Wholes.{DivideState}
 use Rattle.divide_wholes.specs.Workers.{IsUnreadTop}
 use Rattle.dividing_rounds.specs.Stalls.{IsGreatestRead, IsAsked, IsCurrent, IsLow, IsDue, TopWithin, mark_of}
 use Rattle.dividing_rounds.proofs.WorkloadLemmas.{has_nothing}
+use Rattle.dividing_rounds.proofs.StallLemmas.{nothing_within, within_none}
 use Rattle.divide_merge.specs.Reading.{IsGreatest, IsLowTop}
-use Rattle.divide_merge.proofs.OneAnswer.{at_has, at_both}
+use Rattle.divide_merge.proofs.OneAnswer.{at_has}
 use Rattle.divide_merge.proofs.Turning.{reached_below}
 
 -- x was read, or is the top of an asked worker
@@ -63,14 +64,6 @@ unfolding TopWithin
 top_up ord x y None k h = tt
 top_up ord x y (Some z) k h = at_then_at ord z x y h k
 
-nothing_at : (ord : Order) (x : List ℕ) (A : List Term) → A ≡ [] → AllAtOrBelow ord x A
-unfolding AllAtOrBelow
-nothing_at ord x A e = subst (AllAtOrBelow ord x) (sym e) tt
-
-no_top : (ord : Order) (x : List ℕ) (top : Option (List ℕ)) → top ≡ None → TopWithin ord x top
-unfolding TopWithin
-no_top ord x top e = subst (TopWithin ord x) (sym e) tt
-
 own_top : (ord : Order) (x : List ℕ) (top : Option (List ℕ)) → top ≡ Some x → TopWithin ord x top
 unfolding TopWithin
 own_top ord x top e = subst (TopWithin ord x) (sym e) (inl refl)
@@ -80,12 +73,12 @@ unfolding Bounded IsGreatest
 bound_goes s i None None c h k e g = subst (Bounded s (i + 1)) (sym g) (h.0, below_next (λ w. IsAsked s w → (mark_of s w).1 ≡ None) i h.1 (λ _. e))
 bound_goes s i None (Some y) c h k e g =
     subst (Bounded s (i + 1)) (sym g) (
-      nothing_at s.division.ord y (s.unread ++ head_terms s.heads) h.0,
-      below_next (λ w. IsAsked s w → TopWithin s.division.ord y (mark_of s w).1) i (λ w l a. no_top s.division.ord y (mark_of s w).1 (h.1 w l a)) (λ _. own_top s.division.ord y (mark_of s i).1 e),
+      nothing_within s.division.ord y (s.unread ++ head_terms s.heads) h.0,
+      below_next (λ w. IsAsked s w → TopWithin s.division.ord y (mark_of s w).1) i (λ w l a. within_none s.division.ord y (mark_of s w).1 (h.1 w l a)) (λ _. own_top s.division.ord y (mark_of s i).1 e),
       inr (i, k, e),
     )
 bound_goes s i (Some x) None c h k e g =
-    subst (Bounded s (i + 1)) (sym g) (h.0, below_next (λ w. IsAsked s w → TopWithin s.division.ord x (mark_of s w).1) i h.1 (λ _. no_top s.division.ord x (mark_of s i).1 e), h.2)
+    subst (Bounded s (i + 1)) (sym g) (h.0, below_next (λ w. IsAsked s w → TopWithin s.division.ord x (mark_of s w).1) i h.1 (λ _. within_none s.division.ord x (mark_of s i).1 e), h.2)
 bound_goes s i (Some x) (Some y) c h k e (inl g) =
     subst (Bounded s (i + 1)) (sym g.0)
     (h.0, below_next (λ w. IsAsked s w → TopWithin s.division.ord x (mark_of s w).1) i h.1 (λ _. top_up s.division.ord y x (mark_of s i).1 g.1 (own_top s.division.ord y (mark_of s i).1 e)), h.2)

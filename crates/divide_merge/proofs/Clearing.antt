@@ -8,6 +8,7 @@ use Rattle.std.proofs.lemmas.List.Elements.{All-nil, All-cons, All-head, All-tai
 use Rattle.sdmp_laws.specs.Order.{Order, Below, alike}
 use Rattle.sdmp_laws.specs.Poly.{Term, AllBelow}
 use Rattle.sdmp_laws.proofs.OrderLemmas.{order_facts, alike_not}
+use Rattle.sdmp_laws.proofs.NextTerm.{at_both}
 use Rattle.whole_laws.specs.Wholes.{head_terms, clear_at}
 use Rattle.ring_heads.specs.declared.head.HeadOf.{HeadOf}
 use Rattle.ring_heads.specs.declared.head.HeadOf.TheVariants as head
@@ -17,7 +18,7 @@ use Rattle.ring_heads.specs.Heads.{plain_heads, live, missing_at, HeadBelongs, I
 use Rattle.ring_heads.proofs.HeadLemmas.{cleared_plain}
 use Rattle.divide_merge.specs.Inside.{NotEnded}
 use Rattle.dividing_rounds.proofs.WorkloadLemmas.{has_nothing}
-use Rattle.divide_merge.proofs.OneAnswer.{at_has, at_both}
+use Rattle.divide_merge.proofs.OneAnswer.{at_has}
 
 -- where none stands at x
 pub clear_none : (ord : Order) (x : List ℕ) (heads : List (Option Term)) → AllBelow ord x (head_terms heads) → clear_at x heads ≡ heads

@@ -21,7 +21,7 @@ use Rattle.dividing_rounds.proofs.WorkloadLemmas.{has-append_out, head_at, scrip
 use Rattle.divide_merge.specs.Names.{IsFit}
 
 -- a monomial that stands in a list has a degree within the list's
-degree_has : (D : ℕ) (A : List Term) (m : List ℕ) → AllDegrees D A → has m A ≡ true → degree m ≤ D
+pub degree_has : (D : ℕ) (A : List Term) (m : List ℕ) → AllDegrees D A → has m A ≡ true → degree m ≤ D
 unfolding has AllDegrees
 degree_has D [] m a h = absurd (true≢false (sym h))
 degree_has D (t ∷ A) m a h = pick (λ k. degree_has D A m a.1 k) (or_out (alike t.monomial m) (has m A) h)

@@ -12,9 +12,9 @@ use Rattle.sdmp_laws.specs.declared.Mode.TheVariants.{Exact, Remainder}
 use Rattle.sdmp_laws.proofs.Parts.{norm_nil, norm_cons, norm_append, norm_times}
 use Rattle.sdmp_laws.proofs.TermsLemmas.{nil_poly}
 use Rattle.sdmp_laws.proofs.NormLemmas.{terms_norm}
-use Rattle.sdmp_laws.proofs.DegreeLemmas.{degree_laws}
+use Rattle.sdmp_laws.proofs.DegreeLemmas.{degree_laws, degrees_append, degrees_negated}
 use Rattle.sdmp_laws.proofs.DivisionLemmas.{lead_nonzero}
-use Rattle.sdmp_laws.proofs.LongLemmas.{remainder_unique}
+use Rattle.sdmp_laws.proofs.LongLemmas.{remainder_unique, abs_neg}
 use Rattle.divide_wholes.specs.Wholes.{DivideState, DivideWhole, IsFinished, RemainderFits}
 use Rattle.divide_wholes.proofs.Candidate.{quotient_poly, finished_is_right}
 use Rattle.divide_core.proofs.DividingSteps.{not_passed}
@@ -28,11 +28,6 @@ use Rattle.dividing_rounds.proofs.StallLemmas.{nobody_stuck}
 use Rattle.divide_merge.proofs.Degrees.{quotient_low, products_low}
 
 -- ---- norms and degrees of a difference
-abs_neg : (c : ℤ) → unsigned_abs (neg_ℤ c) ≡ unsigned_abs c
-abs_neg (pos zero) = refl
-abs_neg (pos (suc i)) = refl
-abs_neg (negsuc i) = refl
-
 norm_negated : (A : List Term) → norm (negated A) ≡ norm A
 unfolding negated term_neg
 norm_negated [] = refl
@@ -42,16 +37,6 @@ norm_negated (t ∷ A) =
     let a = abs_neg t.coefficient in
     let i = norm_negated A in
     omega arith
-
-degrees_negated : (D : ℕ) (A : List Term) → AllDegrees D A → AllDegrees D (negated A)
-unfolding negated term_neg AllDegrees
-degrees_negated D [] h = tt
-degrees_negated D (t ∷ A) h = (h.0, degrees_negated D A h.1)
-
-degrees_both : (D : ℕ) (A B : List Term) → AllDegrees D A → AllDegrees D B → AllDegrees D (A ++ B)
-unfolding AllDegrees
-degrees_both D [] B a b = b
-degrees_both D (t ∷ A) B a b = (a.0, degrees_both D A B a.1 b)
 
 -- ---- the divisor has a norm
 pub norm_some : (g : List Term) → (lc g ≢ pos 0) → 1 ≤ norm g
@@ -91,7 +76,7 @@ module _ (lim : ℕ) (s : DivideState) (fit : IsFit lim s.division) (whole : Div
   unfolding rest_list minus
   rest_canonical i e =
       let F : List Term = d.f ++ negated (times (quotient_list d) d.g) in
-      let low = degrees_both lim d.f (negated (times (quotient_list d) d.g)) fit.dividend.degrees (degrees_negated lim (times (quotient_list d) d.g) (products_low lim d fit d.g ((degree_laws d.ord d.p d.n).0 d.g fit.divisor.poly))) in record {
+      let low = degrees_append lim d.f (negated (times (quotient_list d) d.g)) fit.dividend.degrees (degrees_negated lim (times (quotient_list d) d.g) (products_low lim d fit d.g ((degree_laws d.ord d.p d.n).0 d.g fit.divisor.poly))) in record {
         poly = i;
         degrees = subst (AllDegrees lim) (sym e) ((degree_laws d.ord d.p d.n).2 lim F low);
         norm_fits = λ z.

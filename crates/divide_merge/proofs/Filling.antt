@@ -10,18 +10,13 @@ use Rattle.divide_wholes.specs.Wholes.{divide_take}
 use Rattle.dividing_rounds.specs.Runs.{DivideRun, run_take}
 use Rattle.term_ring.specs.Names.{RingName, NoneBelow, notes_count, ring_name}
 use Rattle.term_ring.specs.declared.ring.Ring.{Ring}
+use Rattle.term_ring.proofs.Lists.{prefix_self, prefix_trans}
 use Rattle.global_heap.proofs.Steps.{NoneBelow-refl, NoneBelow-trans, NoneBelow-set}
 use Rattle.divide_merge.specs.Merges.{DivideView, IsSound, taken_of, AllStarved}
 use Rattle.divide_merge.specs.Steps.{Looks, TakesNote, Fills, IsLeftAlone, IsAskedAll}
 use Rattle.divide_merge.proofs.Taking.{count_more}
 
 -- ---- beginnings
-pub prefix_refl : {Y : Type 0} (xs : List Y) → IsPrefix xs xs
-prefix_refl xs = ([], append-nil xs)
-
-pub prefix_trans : {Y : Type 0} (xs ys zs : List Y) → IsPrefix xs ys → IsPrefix ys zs → IsPrefix xs zs
-prefix_trans xs ys zs p q = (p.0 ++ q.0, sym (append_assoc xs p.0 q.0) ∙ ap (λ (l : List _). l ++ q.0) p.1 ∙ q.1)
-
 -- ---- a note that was taken
 -- nothing but the heads and the notes taken changes
 record Takes (r t : DivideRun) (w : ℕ) (x : Note) : Type 0 where
@@ -59,7 +54,7 @@ longer lim a b w s l t =
 
 -- ---- what is filled
 pub Fills-refl : (a : DivideView) → Fills a a
-Fills-refl a = record { run = refl; answer = refl; spare = refl; rings = refl; row = refl; taken = λ w. prefix_refl (taken_of a w); counts = inl refl; tails = NoneBelow-refl a.tails; looks = NoneBelow-refl a.looks }
+Fills-refl a = record { run = refl; answer = refl; spare = refl; rings = refl; row = refl; taken = λ w. prefix_self (taken_of a w); counts = inl refl; tails = NoneBelow-refl a.tails; looks = NoneBelow-refl a.looks }
 
 -- the last run with other heads and notes
 refilled : (a b c : DivideRun) → b ≡ record a { state = record a.state { heads = b.state.heads; taken = b.state.taken } } → c ≡ record b { state = record b.state { heads = c.state.heads; taken = c.state.taken } }
@@ -111,7 +106,7 @@ fills_idle a b w l e = record {
   spare = l.spare;
   rings = l.rings;
   row = l.row;
-  taken = λ v. subst (λ (r : DivideRun). IsPrefix (taken_of a v) (notes_of r.state.taken v)) (sym e) (prefix_refl (taken_of a v));
+  taken = λ v. subst (λ (r : DivideRun). IsPrefix (taken_of a v) (notes_of r.state.taken v)) (sym e) (prefix_self (taken_of a v));
   counts = inl e;
   tails = looked a b w l;
   looks = l.looks;

@@ -5,15 +5,15 @@ use Rattle.divide_wholes.specs.Row.{RowNote}
 use Rattle.dividing_rounds.specs.Runs.{DivideRun}
 use Rattle.dividing_rounds.specs.Rounds.{progress}
 use Rattle.divide_merge.specs.Reached.{DivideReach, RowGrows, Follows}
-use Rattle.divide_merge.proofs.Filling.{prefix_refl, prefix_trans}
+use Rattle.term_ring.proofs.Lists.{prefix_self, prefix_trans}
 
 -- a list with a beginning is empty only where that is
-prefix_nil : (A B : List RowNote) → IsPrefix A B → B ≡ [] → A ≡ []
+pub prefix_nil : (A B : List RowNote) → IsPrefix A B → B ≡ [] → A ≡ []
 prefix_nil [] B k e = refl
 prefix_nil (x ∷ A) B k e = absurd (let n = ap (λ (L : List RowNote). length L) (k.1 ∙ e) in omega arith)
 
 pub RowGrows-refl : (a : DivideRun) → RowGrows a a
-RowGrows-refl a = record { notes = prefix_refl a.notes; front = λ _. refl }
+RowGrows-refl a = record { notes = prefix_self a.notes; front = λ _. refl }
 
 pub RowGrows-trans : (a b c : DivideRun) → RowGrows a b → RowGrows b c → RowGrows a c
 RowGrows-trans a b c f g = record {
@@ -23,7 +23,7 @@ RowGrows-trans a b c f g = record {
 
 -- ---- the row
 pub row_same : (a b : DivideRun) → b.notes ≡ a.notes → b.state.front ≡ a.state.front → RowGrows a b
-row_same a b n f = record { notes = subst (IsPrefix a.notes) (sym n) (prefix_refl a.notes); front = λ _. f }
+row_same a b n f = record { notes = subst (IsPrefix a.notes) (sym n) (prefix_self a.notes); front = λ _. f }
 
 pub row_longer : (a b : DivideRun) (x : RowNote) → b.notes ≡ a.notes ++ x ∷ [] → RowGrows a b
 row_longer a b x n = record {

@@ -13,6 +13,7 @@ use Rattle.sdmp_laws.proofs.Ints.{add_zero, red_zero}
 use Rattle.sdmp_laws.proofs.OrderLemmas.{Three, is_less, is_equal, is_greater, numbers}
 use Rattle.sdmp_laws.proofs.PolyLemmas.{total_minus}
 use Rattle.sdmp_laws.proofs.TermsLemmas.{total_above, coef_head, head_facts, tail_poly}
+use Rattle.sdmp_laws.proofs.NextTerm.{at_both}
 use Rattle.whole_laws.specs.Notes.{divisor_rows}
 use Rattle.whole_laws.specs.Wholes.{head_terms, head_of_worker}
 use Rattle.divide_wholes.specs.Wholes.{DivideState, IsCandidate}
@@ -36,7 +37,7 @@ use Rattle.divide_merge.specs.Reading.{BeginsAt, IsReadNext, IsGreater, IsGreate
 use Rattle.divide_merge.specs.Verdicts.{NoneStuck}
 use Rattle.divide_merge.specs.declared.mark.Mark.{Mark}
 use Rattle.divide_merge.specs.declared.mark.Next.{Next}
-use Rattle.divide_merge.proofs.OneAnswer.{at_has, at_both}
+use Rattle.divide_merge.proofs.OneAnswer.{at_has}
 use Rattle.divide_merge.proofs.Rows.{rows_some, rows_none}
 use Rattle.divide_merge.proofs.NextRead.{nothing_read, read_unread, read_head, read_both, drop_at, drop_term, drop_all}
 use Rattle.divide_merge.proofs.Overflow.{read_fits}

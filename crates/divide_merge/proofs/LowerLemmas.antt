@@ -10,6 +10,7 @@ use Rattle.sdmp_laws.specs.Division.{AtOrAbove}
 use Rattle.sdmp_laws.proofs.CompareLemmas.{compare_same, compare_greater}
 use Rattle.sdmp_laws.proofs.OrderLemmas.{Three, is_less, is_equal, is_greater, below_total, order_facts, times_comm, degree_times, degree_zeros, zeros_from_degree}
 use Rattle.sdmp_laws.proofs.LongLemmas.{over_times, length_over, below_degree}
+use Rattle.sdmp_laws.proofs.NextTerm.{times_at}
 use Rattle.divide_merge.specs.Lower.{power, IsLeastAbove}
 
 -- the power of the last of the variables, said by recursion
@@ -129,10 +130,6 @@ quotient_of l m d =
     let e = over_times m l d in
     (e, length_over m l d, sym (degree_times (over m l) l) ∙ ap degree e)
 
-times_up : (ord : Order) (a b l : List ℕ) → length a ≡ length b → AtOrAbove ord a b → AtOrAbove ord (a ⋅ l) (b ⋅ l)
-times_up ord a b l e (inl f) = inl (ap (λ (v : List ℕ). v ⋅ l) f)
-times_up ord a b l e (inr k) = inr ((order_facts ord).compatible a b l e k)
-
 at_degree : (ord : Order) (a b : List ℕ) → AtOrAbove ord a b → degree a ≤ degree b
 at_degree ord a b (inl e) = let d = ap degree e in omega arith
 at_degree ord a b (inr k) = below_degree ord a b k
@@ -171,7 +168,7 @@ lower_degree ord n k l b m long db h d at = pick (grind (arith, at_degree ord m 
     above e =
         subst (AtOrAbove ord (l ⋅ power n (n - 1) k)) q.0
         (subst (λ (v : List ℕ). AtOrAbove ord v (over m l ⋅ l)) (times_comm (power n (n - 1) k) l)
-        (times_up ord (power n (n - 1) k) (over m l) l (long_power n (n - 1) k ∙ sym (q.1 ∙ long)) (least n h.some (q.1 ∙ long) (let f = q.2 in omega arith))))
+        (times_at ord (power n (n - 1) k) (over m l) l (long_power n (n - 1) k ∙ sym (q.1 ∙ long)) (least n h.some (q.1 ∙ long) (let f = q.2 in omega arith))))
 
     pick : (degree m ≡ degree b) ⊎ (degree m < degree b) → degree m < degree b
     pick (inl e) = absurd (at_back ord m b (l ⋅ power n (n - 1) k) at h.above (above e))
@@ -206,7 +203,7 @@ next_multiples ord n k l b m ll long db h d at = pick (grind (arith, lower_degre
     here e =
         subst (λ (v : List ℕ). AtOrAbove ord v (l ⋅ power n 0 k)) q.0
         (subst (AtOrAbove ord (over m l ⋅ l)) (times_comm (power n 0 k) l)
-        (times_up ord (over m l) (power n 0 k) l (q.1 ∙ long ∙ sym (long_power n 0 k))
+        (times_at ord (over m l) (power n 0 k) l (q.1 ∙ long ∙ sym (long_power n 0 k))
         (subst (λ (i : ℕ). AtOrAbove ord (over m l) (power i 0 k)) (q.1 ∙ long) (greatest_power ord k (over m l) (let a = q.1 in let s = h.some in omega arith) (let f = q.2 in omega arith)))))
 
     pick : (degree m ≡ degree l + k) ⊎ (degree m < degree l + k) → AtOrAbove ord m (l ⋅ power n 0 k)
@@ -214,14 +211,6 @@ next_multiples ord n k l b m ll long db h d at = pick (grind (arith, lower_degre
     pick (inr less) = inr ((order_facts ord).degree_first m (l ⋅ power n 0 k) (let f = degree_times l (power n 0 k) in let p = power_degree n k h.some in omega arith))
 
 -- ---- as monomials compare
-pub less_below : (ord : Order) (a b : List ℕ) → length a ≡ length b → compare ord a b ≡ Less → Below ord a b
-less_below ord a b l e = pick (below_total ord a b l)
-  where
-    pick : Three (Below ord a b) (a ≡ b) (Below ord b a) → Below ord a b
-    pick (is_less h) = h
-    pick (is_equal q) = absurd (true≢false (sym (ap is_lt e) ∙ ap is_lt (subst (λ (c : List ℕ). compare ord a c ≡ compare ord a a) q refl ∙ compare_same ord a)))
-    pick (is_greater h) = absurd (true≢false (sym (ap is_lt e) ∙ ap is_lt (compare_greater ord a b h)))
-
 -- what holds of a value and of the default holds of the one that is taken
 pub either : {A : Type 0} (P : A → Type 0) (o : Option A) (d r : A) → r ≡ unwrap_or o d → IfSome o P → P d → P r
 either P None d r e some none = subst P (sym e) none

@@ -15,32 +15,9 @@ use Rattle.term_ring.specs.Spelling.{note_of, notes_of}
 use Rattle.term_ring.specs.Carried.{Carries}
 use Rattle.term_ring.proofs.EachMoment.{at_each_moment}
 use Rattle.global_heap.specs.Moments.{RingMoment}
+use Rattle.global_heap.proofs.MomentLemmas.{sum_split, IsShared, owed_is}
 use Rattle.divide_merge.specs.Merges.{DivideView, taken_of}
 use Rattle.divide_merge.specs.Moments.{terms_out, terms_back, whole_of, IsDivideRing, DivisionAtEachMoment, DivisionWhileNobodyHolds}
-
--- a sum whose parts are split one by one
-sum_split : (m : List ℕ) (F A B : ℕ → List Term) (k : ℕ) → ((w : ℕ) → w < k → F w ≡ A w ++ B w) → total (sum_over k A) m +ℤ total (sum_over k B) m ≡ total (sum_over k F) m
-unfolding sum_over
-sum_split m F A B zero h = omega (arith, ints, total_nil m)
-sum_split m F A B (suc k) h =
-    omega (
-      arith,
-      ints,
-      total_append (sum_over k A) (A k) m,
-      total_append (sum_over k B) (B k) m,
-      total_append (sum_over k F) (F k) m,
-      sum_split m F A B k (λ w l. h w (omega arith)),
-      ap (λ L. total L m) (h k (omega arith)) ∙ total_append (A k) (B k) m,
-    )
-
--- of a worker: what was sent may be sent, and is what was taken and what is inside
-record IsShared (s : Script) (taken inside sent : List Note) : Type 0 where
-  pub carried : Carry s sent
-  pub sent_is : sent ≡ taken ++ inside
-
-owed_is : (s : Script) (taken inside sent : List Note) → IsShared s taken inside sent → owed s taken ≡ terms_in inside ++ owed s sent
-owed_is s taken inside sent h =
-    subst (λ z. owed s taken ≡ terms_in inside ++ owed s z) (sym h.sent_is) (owed_split s taken inside (subst (Carry s) h.sent_is h.carried))
 
 -- what is owed, by its total
 back_total : (s : DivideState) (inside sent : ℕ → List Note) (m : List ℕ) → ((w : ℕ) → w < s.workers → IsShared (divide_script s w) (notes_at s.taken w) (inside w) (sent w)) → total (terms_back s inside sent) m ≡ total (head_terms s.heads ++ all_owed s) m

@@ -7,7 +7,7 @@ use Rattle.sdmp_laws.specs.Poly.{Term, AllBelow, Decreasing}
 use Rattle.sdmp_laws.specs.Division.{AllAtOrBelow, AtOrAbove}
 use Rattle.sdmp_laws.proofs.OrderLemmas.{Three, is_less, is_equal, is_greater, below_total, alike_self}
 use Rattle.sdmp_laws.proofs.CompareLemmas.{compare_less, compare_greater, compare_same}
-use Rattle.sdmp_laws.proofs.NextTerm.{at_then_below}
+use Rattle.sdmp_laws.proofs.NextTerm.{below_at, AllAtOrBelow-above}
 use Rattle.sdmp_laws.proofs.Tests.{or_in_left}
 use Rattle.whole_laws.specs.Notes.{has}
 use Rattle.whole_laws.specs.Wholes.{head_terms}
@@ -21,11 +21,6 @@ use Rattle.canonical_terms.specs.View.{term_of, sum_of}
 use Rattle.canonical_terms.specs.declared.term.TermOf.{TermOf}
 use Rattle.divide_merge.specs.Reading.{BeginsAt, IsReadNext, IsGreater}
 use Rattle.divide_merge.specs.declared.mark.Next.{Next}
-
-below_at : (ord : Order) (x : List ℕ) (A : List Term) → AllBelow ord x A → AllAtOrBelow ord x A
-unfolding AllBelow AllAtOrBelow
-below_at ord x [] h = tt
-below_at ord x (t ∷ A) h = (inr h.0, below_at ord x A h.1)
 
 at_append : (ord : Order) (x : List ℕ) (A B : List Term) → AllAtOrBelow ord x A → AllAtOrBelow ord x B → AllAtOrBelow ord x (A ++ B)
 unfolding AllAtOrBelow
@@ -74,12 +69,6 @@ pub nothing_read : (s : DivideState) → s.unread ≡ [] → head_terms s.heads 
 unfolding IsUnreadTop
 nothing_read s u h = ap (λ (A : List Term). A ++ head_terms s.heads) u ∙ h
 
--- all of a list whose greatest monomial is below x
-at_then_all : (ord : Order) (x y : List ℕ) (A : List Term) → AllAtOrBelow ord y A → Below ord y x → AllBelow ord x A
-unfolding AllBelow AllAtOrBelow
-at_then_all ord x y [] h b = tt
-at_then_all ord x y (t ∷ A) h b = (at_then_below ord t.monomial y x h.0 b, at_then_all ord x y A h.1 b)
-
 none_below : (ord : Order) (x : List ℕ) (A : List Term) → A ≡ [] → AllBelow ord x A
 unfolding AllBelow
 none_below ord x A e = subst (AllBelow ord x) (sym e) tt
@@ -101,9 +90,9 @@ module _ {M E : Type 0} (vector : M → List ℕ) (value : E → ℤ) (s : Divid
   read_both u t x b top g =
       read_next vector s x d
       (λ e. subst (λ (v : List ℕ). BeginsAt v s.unread) (sym (g.unread_at e)) b)
-      (λ e. at_then_all s.division.ord (vector x.mono) (vector u) s.unread (begins_at s.division.ord (vector u) s.unread d b) (g.unread_below e))
+      (λ e. AllAtOrBelow-above s.division.ord (vector u) (vector x.mono) s.unread (begins_at s.division.ord (vector u) s.unread d b) (g.unread_below e))
       (λ e. subst (IsTopOf s.division.ord s.heads) (sym (g.head_at e)) top)
-      (λ e. at_then_all s.division.ord (vector x.mono) (vector t) (head_terms s.heads) top.greatest (g.head_below e))
+      (λ e. AllAtOrBelow-above s.division.ord (vector t) (vector x.mono) (head_terms s.heads) top.greatest (g.head_below e))
       g.some
 
 -- the next term of the dividend is the first of the unread part
@@ -128,14 +117,6 @@ drop_all vector value ts L i e l = ap (drop i) (sym e) ∙ walk ts i l
     walk (u ∷ ts) (suc i) l = walk ts i (omega arith)
 
 -- ---- comparison
-pub below_is : (ord : Order) (a b : List ℕ) → length a ≡ length b → compare ord a b ≡ Less → Below ord a b
-below_is ord a b l e = pick (below_total ord a b l)
-  where
-    pick : Three (Below ord a b) (a ≡ b) (Below ord b a) → Below ord a b
-    pick (is_less h) = h
-    pick (is_equal q) = absurd (true≢false (sym (ap is_lt e) ∙ ap is_lt (ap (λ (m : List ℕ). compare ord m b) q ∙ compare_same ord b)))
-    pick (is_greater h) = absurd (true≢false (sym (ap is_lt e) ∙ ap is_lt (compare_greater ord a b h)))
-
 pub not_less : (ord : Order) (a b : List ℕ) → length a ≡ length b → (compare ord a b ≡ Less → ⊥) → AtOrAbove ord b a
 not_less ord a b l n = pick (below_total ord a b l)
   where

@@ -12,6 +12,7 @@ use Rattle.sdmp_laws.proofs.Ints.{red_red, red_zero}
 use Rattle.sdmp_laws.proofs.TermsLemmas.{total_one}
 use Rattle.sdmp_laws.proofs.DivisionLemmas.{turn_unique, length_lm}
 use Rattle.sdmp_laws.proofs.LongLemmas.{over_times, length_over}
+use Rattle.sdmp_laws.proofs.NextTerm.{at_both}
 use Rattle.whole_laws.specs.Notes.{has}
 use Rattle.whole_laws.specs.Wholes.{head_terms}
 use Rattle.divide_wholes.specs.Wholes.{DivideState}
@@ -21,25 +22,18 @@ use Rattle.dividing_rounds.proofs.WorkloadLemmas.{has_nothing}
 use Rattle.dividing_rounds.specs.Found.{read_coef, term_at, Fits}
 use Rattle.dividing_rounds.specs.Stalls.{IsGreatestRead, IsStuck, IsDue}
 use Rattle.divide_merge.specs.Verdicts.{NoneStuck, HoldsUp, IsFrontDue, IsPresentAt, IsTermDue, IsLeftOver, IsTermWithin, with_term, Verdict, Finishes, HasNone, PassesNorm, PassesCount, IsBlocked, RowIsFull, OutIsFull, IsVerdict, OneVerdict}
+use Rattle.division_laws.proofs.OutcomeLemmas.{not_both_modes}
 
 -- ---- what is read next is one
 pub at_has : (ord : Order) (x m : List ℕ) (A : List Term) → has x A ≡ true → AllAtOrBelow ord m A → AtOrAbove ord x m
 at_has ord x m A h a = within_at ord m x A a h
 
-pub at_both : (ord : Order) (x y : List ℕ) → AtOrAbove ord x y → AtOrAbove ord y x → x ≡ y
-at_both ord x y (inl e) k = e
-at_both ord x y (inr b) (inl e) = sym e
-at_both ord x y (inr b) (inr c) = absurd ((order_facts ord).irreflexive x ((order_facts ord).transitive x y x b c))
-
-top_one : (ord : Order) (A : List Term) (m n : Option (List ℕ)) → IsUnreadTop ord A m → IsUnreadTop ord A n → m ≡ n
+pub top_one : (ord : Order) (A : List Term) (m n : Option (List ℕ)) → IsUnreadTop ord A m → IsUnreadTop ord A n → m ≡ n
 unfolding IsUnreadTop
 top_one ord A None None a b = refl
 top_one ord A None (Some y) a b = absurd (has_nothing y A a b.0)
 top_one ord A (Some x) None a b = absurd (has_nothing x A b a.0)
 top_one ord A (Some x) (Some y) a b = ap Some (at_both ord x y (at_has ord x y A a.0 b.1) (at_has ord y x A b.0 a.1))
-
-some_one : (x y : List ℕ) → Some x ≡ Some y → x ≡ y
-some_one x y e = ap (λ (o : Option (List ℕ)). elim o as (λ _. List ℕ) [ None ↦ x | Some z ↦ z ]) e
 
 none_is_some : (x : List ℕ) → None ≡ Some x → ⊥
 none_is_some x e = true≢false (sym (ap (λ (o : Option (List ℕ)). elim o as (λ _. Bool) [ None ↦ false | Some z ↦ true ]) e))
@@ -135,7 +129,7 @@ module _ (s : DivideState) where
   same_read m n g h = top_one s.division.ord (s.unread ++ head_terms s.heads) m n g h
 
   same_present : (x y : List ℕ) → IsPresentAt s x → IsPresentAt s y → x ≡ y
-  same_present x y p q = some_one x y (same_read (Some x) (Some y) p.read q.read)
+  same_present x y p q = cc (same_read (Some x) (Some y) p.read q.read)
 
   -- nobody holds a merge up that has heard all
   not_held : (m : Option (List ℕ)) (w : ℕ) → IsGreatestRead s m → NoneStuck s m → HoldsUp s w → ⊥
@@ -183,9 +177,6 @@ found_one s free a b t (by_room e m k) (by_count f n l) = absurd (m (inr (omega 
 found_one s free a b t (by_room e m k) (by_row f n z) = absurd (omega arith)
 found_one s free a b t (by_room e m k) (by_room f n l) = e ∙ sym f
 
-exact_rest : (m : Mode) → m ≡ Exact → m ≡ Remainder → ⊥
-exact_rest m e f = true≢false (ap (λ (k : Mode). elim k as (λ _. Bool) [ Exact ↦ true | Remainder ↦ false ]) (sym e ∙ f))
-
 held_one : (s : DivideState) (free : ℕ) (a b : Verdict) (v w : ℕ) → v ≡ w → Held s free a v → Held s free b w → a ≡ b
 held_one s free a b v w e (inl g) (inl h) = g.0 ∙ ap IsBlocked e ∙ sym h.0
 held_one s free a b v w e (inl g) (inr h) = absurd (g.1 h.1.0 h.1.1)
@@ -197,8 +188,8 @@ rest_one s a b g h = pick g.2 h.2
   where
     pick : ((a ≡ HasNone g.0) × (s.division.mode ≡ Exact)) ⊎ ((a ≡ OutIsFull) × (s.division.mode ≡ Remainder)) → ((b ≡ HasNone h.0) × (s.division.mode ≡ Exact)) ⊎ ((b ≡ OutIsFull) × (s.division.mode ≡ Remainder)) → a ≡ b
     pick (inl e) (inl f) = e.0 ∙ ap HasNone (same_present s g.0 h.0 g.1.present h.1.present) ∙ sym f.0
-    pick (inl e) (inr f) = absurd (exact_rest s.division.mode e.1 f.1)
-    pick (inr e) (inl f) = absurd (exact_rest s.division.mode f.1 e.1)
+    pick (inl e) (inr f) = absurd (not_both_modes s.division.mode e.1 f.1)
+    pick (inr e) (inl f) = absurd (not_both_modes s.division.mode f.1 e.1)
     pick (inr e) (inr f) = e.0 ∙ sym f.0
 
 case_one : (s : DivideState) (free : ℕ) (a b : Verdict) → IsAccepted s.division → Case s free a → Case s free b → a ≡ b

@@ -18,12 +18,14 @@ use Rattle.whole_laws.specs.Notes.{Note, QuotientScript, after_lead, divisor_row
 use Rattle.whole_laws.specs.Wholes.{head_terms, IsHead, notes_of, head_of_worker}
 use Rattle.whole_laws.proofs.NotesLemmas.{Carry-prefix}
 use Rattle.divide_wholes.specs.Wholes.{DivideState, DivideWhole, IsCandidate, IsBeyond, divide_script}
-use Rattle.divide_wholes.proofs.Candidate.{rows_below, rows_over, script_poly, times_nothing, later_under, candidate_bound}
+use Rattle.divide_wholes.proofs.Candidate.{rows_below, rows_over, script_poly, times_nothing, later_under, candidate_bound, script_total}
 use Rattle.divide_wholes.proofs.WorkerLemmas.{worker_final}
-use Rattle.dividing_rounds.proofs.WorkloadLemmas.{first_lower}
+use Rattle.divide_wholes.proofs.TakeLemmas.{first_is_below}
+use Rattle.dividing_rounds.proofs.WorkloadLemmas.{first_lower, script_none}
 use Rattle.divide_core.proofs.DividingSteps.{not_passed}
 use Rattle.ring_heads.specs.Heads.{size_at}
 use Rattle.global_heap.proofs.Counts.{rows_from, rows_le}
+use Rattle.global_heap.proofs.Finish.{norm_is}
 
 abbrev size : Term → ℕ
 size t = unsigned_abs t.coefficient
@@ -34,26 +36,15 @@ unfolding AllBelow
 in_list ord p n [] rest t i = let f = head_facts ord p n t rest i in coef_head ord p t rest f.1 f.2
 in_list ord p n (u ∷ before) rest t i =
     let f = head_facts ord p n u (before ++ t ∷ rest) i in
-    let below = first_of ord u.monomial t rest (AllBelow-back ord u.monomial before (t ∷ rest) f.1) in
+    let below = first_is_below ord u.monomial t rest (AllBelow-back ord u.monomial before (t ∷ rest) f.1) in
     ap (red p) (total_other u (before ++ t ∷ rest) t.monomial (λ e. (order_facts ord).irreflexive t.monomial (subst (λ (v : List ℕ). Below ord t.monomial v) e below)))
     ∙ in_list ord p n before rest t (tail_poly ord p n u (before ++ t ∷ rest) i)
-  where
-    first_of : (ord : Order) (m : List ℕ) (s : Term) (A : List Term) → AllBelow ord m (s ∷ A) → Below ord s.monomial m
-    first_of ord m s A h = h.0
 
 -- the terms after the first have no greater norm
 lower_norm : (g : List Term) → norm (after_lead g) ≤ norm g
 unfolding after_lead
 lower_norm [] = omega arith
 lower_norm (t ∷ g) = let c = norm_cons t g in omega arith
-
--- nothing comes from no rows
-no_rows : (d : Division) (W w : ℕ) → divisor_rows d.g W w ≡ [] → script_list (QuotientScript d W w) ≡ []
-unfolding script_list terms
-no_rows d W w e = ap (λ (G : List Term). terms d.ord d.p (times (quotient_list d) G)) e ∙ ap (terms d.ord d.p) (times_nothing (quotient_list d)) ∙ nothing
-  where
-    nothing : terms d.ord d.p [] ≡ []
-    nothing = refl
 
 not_nothing : (L before rest : List Term) (t : Term) → L ≡ [] → before ++ t ∷ rest ≡ L → ⊥
 not_nothing L before rest t e h = let n = ap (λ (A : List Term). length A) (h ∙ e) in let l = length-append before (t ∷ rest) in omega arith
@@ -71,7 +62,7 @@ head_size s x w t a whole c integers l e at =
     let prefix : IsPrefix (h.0 ++ t ∷ []) (script_list script) = subst (λ (L : List Term). IsPrefix L (script_list script)) h.1 (Carry-prefix script notes (whole.carried w l)) in
     let split : h.0 ++ t ∷ prefix.0 ≡ script_list script = sym (append_assoc h.0 (t ∷ []) prefix.0) ∙ prefix.1 in
     let poly : IsPoly d.ord d.p d.n (h.0 ++ t ∷ prefix.0) = subst (λ (L : List Term). IsPoly d.ord d.p d.n L) (sym split) (script_poly d s.workers w a) in
-    let some : G ≡ [] → ⊥ = λ none. not_nothing (script_list script) h.0 prefix.0 t (no_rows d s.workers w none) split in
+    let some : G ≡ [] → ⊥ = λ none. not_nothing (script_list script) h.0 prefix.0 t (script_none d s.workers w none) split in
     let later = whole.quotient in
     let lower = first_lower d.ord d.n (lm d.g) G some (rows_below d s.workers w a) (rows_over d s.workers w a) in
     let below : Below d.ord (x ⋅ lm G) (x ⋅ lm d.g) =
@@ -81,15 +72,12 @@ head_size s x w t a whole c integers l e at =
     let final = worker_final d s.workers w s.q later.0 x x a later.1 c.vector c.vector (inl (later_under s x later.0 a whole (candidate_bound s x c) later.1, below)) in
     let value : t.coefficient ≡ red d.p (total (times s.q G) x) =
     sym (in_list d.ord d.p d.n h.0 prefix.0 t poly) ∙ (λ i. red d.p (total (split i) (at i)))
-    ∙ script_coef d s.workers w x ∙ final in
+    ∙ script_total d s.workers w x ∙ final in
     let plain : t.coefficient ≡ total (times s.q G) x = value ∙ ap (λ (p : ℕ). red p (total (times s.q G) x)) integers in
     let z = ap unsigned_abs plain in
     let within = total-le-norm (times s.q G) x in
     let n = norm_times s.q G in
     omega arith
-  where
-    script_coef : (d : Division) (W w : ℕ) (x : List ℕ) → red d.p (total (script_list (QuotientScript d W w)) x) ≡ red d.p (total (times (quotient_list d) (divisor_rows d.g W w)) x)
-    script_coef d W w x = same_total d.p (terms d.ord d.p (times (quotient_list d) (divisor_rows d.g W w))) (times (quotient_list d) (divisor_rows d.g W w)) (terms_same d.ord d.p (times (quotient_list d) (divisor_rows d.g W w))) x
 
 -- the heads at x, each within a bound by its worker's rows
 heads_from : (B : List Term) (W K w : ℕ) (x : List ℕ) (heads : List (Option Term)) → ((v : ℕ) (t : Term) → v < length heads → get_or heads v None ≡ Some t → t.monomial ≡ x → size t ≤ K * norm (every W (w + v) 1 B))
@@ -134,6 +122,3 @@ read_fits s x a whole c integers =
     let f = suffix_norm s.unread s.division.f whole.unread_suffix in
     let p = not_passed s.division s.q integers whole.within in
     omega arith
-  where
-    norm_is : (A : List Term) → sum_by size A ≡ norm A
-    norm_is A = refl

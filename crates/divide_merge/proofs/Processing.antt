@@ -9,10 +9,13 @@ use Rattle.sdmp_laws.specs.Canonical.{Polynomial}
 use Rattle.sdmp_laws.specs.Division.{Division, AllAtOrBelow}
 use Rattle.sdmp_laws.proofs.OrderLemmas.{order_facts, alike_not, alike_self}
 use Rattle.sdmp_laws.proofs.LongLemmas.{over_times}
+use Rattle.sdmp_laws.proofs.NextTerm.{at_both}
 use Rattle.whole_laws.specs.Wholes.{head_terms, clear_at}
+use Rattle.whole_laws.proofs.NotesLemmas.{alike_from}
 use Rattle.divide_wholes.specs.Row.{RowNote, RowTerm, RowCarry, row_terms}
 use Rattle.divide_wholes.specs.Wholes.{DivideState, processed, found, kept}
 use Rattle.divide_wholes.proofs.RowLemmas.{row_terms-append}
+use Rattle.divide_wholes.proofs.ProcessLemmas.{without_below}
 use Rattle.canonical_terms.specs.View.{term_of, sum_of}
 use Rattle.canonical_terms.specs.declared.term.TermOf.{TermOf}
 use Rattle.dividing_rounds.specs.Found.{read_coef, IsNext, IsQuotientAt, IsRestAt}
@@ -41,16 +44,9 @@ use Rattle.dividing_rounds.proofs.StallLemmas.{nobody_stuck}
 use Rattle.divide_merge.proofs.Sound.{workload_low, is_sound}
 use Rattle.divide_merge.proofs.Overflow.{read_fits}
 use Rattle.divide_merge.proofs.Publishing.{row_of, legal_after}
-use Rattle.divide_merge.proofs.OneAnswer.{at_has, at_both}
+use Rattle.divide_merge.proofs.OneAnswer.{at_has}
 
 -- ---- the unread terms after those at x
-without_all : (ord : Order) (x : List ℕ) (A : List Term) → AllBelow ord x A → without x A ≡ A
-unfolding without AllBelow
-without_all ord x [] h = refl
-without_all ord x (t ∷ A) h =
-    ap (λ (b : Bool). cond b (without x A) (t ∷ without x A)) (alike_not t.monomial x (λ e. (order_facts ord).irreflexive x (subst (λ (v : List ℕ). Below ord v x) e h.0)))
-    ∙ ap (λ (L : List Term). t ∷ L) (without_all ord x A h.1)
-
 not_cons : (t : Term) (rest : List Term) → t ∷ rest ≡ [] → ⊥
 not_cons t rest e = true≢false (ap (λ (A : List Term). elim A as (λ _. Bool) [ [] ↦ false | u ∷ B ↦ true ]) e)
 
@@ -75,12 +71,9 @@ unread_after ord n L x true d at below =
     let u = at refl in
     let k : Decreasing ord (u.0 ∷ u.1) = subst (Decreasing ord) u.2 (decreasing_drop ord n L d) in
     drop_next n L u.0 u.1 u.2
-    ∙ sym (ap (without x) u.2 ∙ ap (λ (c : Bool). cond c (without x u.1) (u.0 ∷ without x u.1)) (alike_same_at u.0.monomial x u.3)
-    ∙ without_all ord x u.1 (subst (λ (v : List ℕ). AllBelow ord v u.1) u.3 k.0))
-  where
-    alike_same_at : (a b : List ℕ) → a ≡ b → alike a b ≡ true
-    alike_same_at a b e = subst (λ (v : List ℕ). alike a v ≡ true) e (alike_self a)
-unread_after ord n L x false d at below = sym (without_all ord x (drop n L) (below refl))
+    ∙ sym (ap (without x) u.2 ∙ ap (λ (c : Bool). cond c (without x u.1) (u.0 ∷ without x u.1)) (alike_from u.0.monomial x u.3)
+    ∙ without_below ord x u.1 (subst (λ (v : List ℕ). AllBelow ord v u.1) u.3 k.0))
+unread_after ord n L x false d at below = sym (without_below ord x (drop n L) (below refl))
 
 -- it is read where an unread term stands there
 pub read_below : (n : ℕ) (L : List Term) (x : List ℕ) → BeginsAt x (drop n L) → n < length L

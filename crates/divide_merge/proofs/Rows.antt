@@ -1,6 +1,7 @@
 -- Which workers have a part of the divisor.
 use Rattle.std.proofs.Common.{◌≡◌, ◌≢◌, inl, inr, ◌⊎◌, ℕ, zero, suc, ◌+◌, ◌%◌, ◌<◌, ◌≤◌, Bool, true, false, true≢false, cond, eqb, List, [], ◌∷◌, length, refl, sym, ap, ◌∙◌, subst, arith}
 use Rattle.std.proofs.Math.Nat.{mod_self, mod-eq_of_lt}
+use Rattle.std.proofs.lemmas.Bool.{ne_eqb}
 use Rattle.sdmp_laws.specs.Poly.{Term, every}
 use Rattle.whole_laws.specs.Notes.{after_lead, divisor_rows}
 use Rattle.dividing_rounds.proofs.LogLemmas.{after_one}
@@ -10,9 +11,6 @@ record IsFirstPlace (W w i j : ℕ) : Type 0 where
   before : (k : ℕ) → i ≤ k → k < j → k % W ≡ w → ⊥
   here : j % W ≡ w
   from : i ≤ j
-
-eqb_no : (a b : ℕ) → (a ≡ b → ⊥) → eqb a b ≡ false
-eqb_no a b n = grind arith
 
 eqb_yes : (a b : ℕ) → a ≡ b → eqb a b ≡ true
 eqb_yes a b e = grind arith
@@ -35,14 +33,14 @@ place_some W w i j (t ∷ A) f l e = pick (λ s. place_some W w (suc i) j A (rec
         (ap (λ (b : Bool). cond b (t ∷ every W w (suc i) A) (every W w (suc i) A)) (eqb_yes (i % W) w (ap (λ (k : ℕ). k % W) s ∙ f.here))) e
     pick next (inr s) =
         next s
-        (sym (ap (λ (b : Bool). cond b (t ∷ every W w (suc i) A) (every W w (suc i) A)) (eqb_no (i % W) w (f.before i (omega arith) (omega arith)))) ∙ e)
+        (sym (ap (λ (b : Bool). cond b (t ∷ every W w (suc i) A) (every W w (suc i) A)) (ne_eqb (i % W) w (f.before i (omega arith) (omega arith)))) ∙ e)
 
 -- and none where it ends before
 place_none : (W w i j : ℕ) (A : List Term) → IsFirstPlace W w i j → i + length A ≤ j → every W w i A ≡ []
 unfolding every
 place_none W w i j [] f l = refl
 place_none W w i j (t ∷ A) f l =
-    ap (λ (b : Bool). cond b (t ∷ every W w (suc i) A) (every W w (suc i) A)) (eqb_no (i % W) w (f.before i (omega arith) (omega arith)))
+    ap (λ (b : Bool). cond b (t ∷ every W w (suc i) A) (every W w (suc i) A)) (ne_eqb (i % W) w (f.before i (omega arith) (omega arith)))
     ∙ place_none W w (suc i) j A (record { before = λ k a b. f.before k (omega arith) b; here = f.here; from = omega arith }) (omega arith)
 
 -- the first place of a worker after the lead: its number, and the number of workers for the first
@@ -53,7 +51,7 @@ first_place W zero l = record {
   from = omega arith;
 }
 first_place W (suc w) l =
-    subst (IsFirstPlace W (suc w) 1) (sym (ap (λ (b : Bool). cond b W (suc w)) (eqb_no (suc w) 0 (λ z. omega arith)))) (record {
+    subst (IsFirstPlace W (suc w) 1) (sym (ap (λ (b : Bool). cond b W (suc w)) (ne_eqb (suc w) 0 (λ z. omega arith)))) (record {
       before = λ k a b e. absurd (let m = mod-eq_of_lt {n = k} {m = W} (omega arith) in omega arith);
       here = mod-eq_of_lt l;
       from = omega arith;

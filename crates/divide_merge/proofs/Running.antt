@@ -11,6 +11,7 @@ use Rattle.whole_laws.specs.Wholes.{notes_of, head_of_worker}
 use Rattle.dividing_rounds.specs.Runs.{DivideRun, workload_count}
 use Rattle.dividing_rounds.specs.Rounds.{progress}
 use Rattle.term_ring.specs.Names.{NoneBelow, notes_count}
+use Rattle.term_ring.proofs.Lists.{prefix_self, prefix_trans}
 use Rattle.global_heap.proofs.Steps.{NoneBelow-refl, NoneBelow-trans}
 use Rattle.divide_merge.specs.Verdicts.{Verdict, Finishes, HasNone, PassesNorm, PassesCount, IsBlocked, RowIsFull, OutIsFull, IsVerdict, IsFinal, kept_of}
 use Rattle.divide_merge.specs.Merges.{DivideView, free_places, IsSound, IsCause, IsAskedInVain, Grows, taken_of, AllStarved}
@@ -18,15 +19,14 @@ use Rattle.divide_merge.specs.Reached.{divide_reached, Follows, Follows-itself}
 use Rattle.divide_merge.specs.Steps.{Fills, Turns}
 use Rattle.dividing_rounds.proofs.LogLemmas.{counts_fit}
 use Rattle.divide_merge.proofs.Following.{row_same, Follows-trans}
-use Rattle.divide_merge.proofs.Filling.{prefix_refl, prefix_trans}
 
 pub Grows-refl : (a : DivideView) → Grows a a
 Grows-refl a = record {
   rings = refl;
   row = refl;
   start = refl;
-  taken = λ w. prefix_refl (taken_of a w);
-  notes = prefix_refl a.run.notes;
+  taken = λ w. prefix_self (taken_of a w);
+  notes = prefix_self a.run.notes;
   found = [];
   kept = [];
   q = sym (append-nil a.run.state.q);
@@ -58,7 +58,7 @@ fills_grows a b f = record {
   row = f.row;
   start = ap (λ (r : DivideRun). r.state.start) f.run;
   taken = f.taken;
-  notes = subst (λ (r : DivideRun). IsPrefix a.run.notes r.notes) (sym f.run) (prefix_refl a.run.notes);
+  notes = subst (λ (r : DivideRun). IsPrefix a.run.notes r.notes) (sym f.run) (prefix_self a.run.notes);
   found = [];
   kept = [];
   q = ap (λ (r : DivideRun). r.state.q) f.run ∙ sym (append-nil a.run.state.q);
@@ -76,7 +76,7 @@ turns_grows a b o t = record {
   rings = t.steady.rings;
   row = t.steady.row;
   start = t.start;
-  taken = λ w. subst (λ (ts : List (List Note)). IsPrefix (taken_of a w) (notes_of ts w)) (sym t.taken) (prefix_refl (taken_of a w));
+  taken = λ w. subst (λ (ts : List (List Note)). IsPrefix (taken_of a w) (notes_of ts w)) (sym t.taken) (prefix_self (taken_of a w));
   notes = t.row_grows.notes;
   found = t.found;
   kept = t.kept;

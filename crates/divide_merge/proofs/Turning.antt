@@ -25,6 +25,17 @@ use Rattle.divide_merge.proofs.OneAnswer.{at_has}
 use Rattle.divide_merge.proofs.Reserving.{final_anywhere}
 use Rattle.divide_merge.proofs.Following.{RowGrows-refl, row_same, row_longer}
 
+-- a final answer is kept
+pub final_kept : (x : Verdict) → IsFinal x → kept_of x ≡ Some x
+unfolding IsFinal kept_of
+final_kept Finishes f = refl
+final_kept (HasNone m) f = refl
+final_kept (PassesNorm t) f = refl
+final_kept (PassesCount t) f = refl
+final_kept (IsBlocked w) f = absurd f
+final_kept RowIsFull f = absurd f
+final_kept OutIsFull f = absurd f
+
 module _ (lim : ℕ) (a b : DivideView) (s : IsSound lim a) (going : a.answer ≡ None) where
   -- it isn't over
   not_over : a.run.over ≡ false
@@ -120,15 +131,6 @@ module _ (lim : ℕ) (a b : DivideView) (s : IsSound lim a) (going : a.answer �
     };
     goes_on = λ e. absurd (true≢false (ap (λ (o : Option Verdict). is_some o) e));
   }
-    where
-      final_kept : (x : Verdict) → IsFinal x → kept_of x ≡ Some x
-      final_kept Finishes f = refl
-      final_kept (HasNone m) f = refl
-      final_kept (PassesNorm t) f = refl
-      final_kept (PassesCount t) f = refl
-      final_kept (IsBlocked w) f = absurd f
-      final_kept RowIsFull f = absurd f
-      final_kept OutIsFull f = absurd f
 
 -- ---- a front that is due
 -- what was read, and the tops of the asked workers, are at one bound or below, at which one of them stands

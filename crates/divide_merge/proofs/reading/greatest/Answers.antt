@@ -1,8 +1,9 @@
 use Rattle.std.proofs.Common.{sym, ap, ◌∙◌, inr}
 use Rattle.divide_merge.specs.Inside.{vector_of}
-use Rattle.divide_merge.proofs.NextRead.{below_is, not_less}
+use Rattle.divide_merge.proofs.NextRead.{not_less}
 use Rattle.divide_merge.proofs.Bounds.{greatest_none, greatest_alone, greatest_left, greatest_right}
 use Rattle.divide_merge.proofs.reading.greatest.Goals as goal
+use Rattle.sdmp_laws.proofs.CompareLemmas.{compare_below}
 
 pub returns-in-None : goal.returns-in-None
 returns-in-None g c =
@@ -20,7 +21,7 @@ returns-in-Less g c =
     let v = g.M.Monomial.vector in
     let o = vector_of g.M.Monomial.vector in
     greatest_right g.M.Monomial.order (o c.args.a) (o c.args.b) (v c.in-Some.left) (v c.in-Some-b.right) (ap o c.in-Some.is) (ap o c.in-Some-b.is)
-    (inr (below_is g.M.Monomial.order (v c.in-Some.left) (v c.in-Some-b.right) (monos.vars c.in-Some.left ∙ sym (monos.vars c.in-Some-b.right)) (sym c.higher.ensures.value ∙ c.in-Less.is)))
+    (inr (compare_below g.M.Monomial.order (v c.in-Some.left) (v c.in-Some-b.right) (monos.vars c.in-Some.left ∙ sym (monos.vars c.in-Some-b.right)) (sym c.higher.ensures.value ∙ c.in-Less.is)))
 
 pub returns-in_default : goal.returns-in_default
 returns-in_default g c =

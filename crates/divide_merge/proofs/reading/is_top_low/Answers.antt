@@ -1,7 +1,6 @@
 use Rattle.std.proofs.Common.{sym, ap, ◌∙◌}
-use Rattle.sdmp_laws.proofs.CompareLemmas.{compare_less}
+use Rattle.sdmp_laws.proofs.CompareLemmas.{compare_less, compare_below}
 use Rattle.divide_merge.specs.Inside.{vector_of}
-use Rattle.divide_merge.proofs.NextRead.{below_is}
 use Rattle.divide_merge.proofs.Bounds.{low_without, low_nowhere, low_yes, low_no}
 use Rattle.divide_merge.proofs.reading.is_top_low.Goals as goal
 
@@ -21,7 +20,7 @@ returns-in-Less g c =
     let v = g.M.Monomial.vector in
     let o = vector_of g.M.Monomial.vector in
     low_yes g.M.Monomial.order (o c.args.next) (o c.args.top) (v c.in-Some-next.next) (v c.in-Some.top) (ap o c.in-Some-next.is) (ap o c.in-Some.is)
-    (below_is g.M.Monomial.order (v c.in-Some.top) (v c.in-Some-next.next) (monos.vars c.in-Some.top ∙ sym (monos.vars c.in-Some-next.next)) (sym c.higher.ensures.value ∙ c.in-Less.is))
+    (compare_below g.M.Monomial.order (v c.in-Some.top) (v c.in-Some-next.next) (monos.vars c.in-Some.top ∙ sym (monos.vars c.in-Some-next.next)) (sym c.higher.ensures.value ∙ c.in-Less.is))
 
 pub returns-in_default-matches : goal.returns-in_default-matches
 returns-in_default-matches g c =

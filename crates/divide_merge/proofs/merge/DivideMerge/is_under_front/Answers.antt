@@ -1,7 +1,6 @@
 use Rattle.std.proofs.Common.{true, false, sym, ap, ◌∙◌}
-use Rattle.sdmp_laws.proofs.CompareLemmas.{compare_less}
+use Rattle.sdmp_laws.proofs.CompareLemmas.{compare_less, compare_below}
 use Rattle.divide_merge.specs.Inside.{vector_of}
-use Rattle.divide_merge.proofs.NextRead.{below_is}
 use Rattle.divide_merge.proofs.Bounds.{under_none, under_yes, under_no}
 use Rattle.divide_merge.proofs.Hearing.{front_is}
 use Rattle.divide_merge.proofs.merge.DivideMerge.is_under_front.Goals as goal
@@ -18,7 +17,7 @@ returns-in-Less g c =
     let o = vector_of g.M.Monomial.vector in
     front_is c.self.invariant c.self.view_is true (v c.args.mono)
     (under_yes g.M.Monomial.order (o c.self.inside.front) (v c.in-Some.front) (v c.args.mono) (ap o c.in-Some.is)
-    (below_is g.M.Monomial.order (v c.args.mono) (v c.in-Some.front) (monos.vars c.args.mono ∙ sym (monos.vars c.in-Some.front)) (sym c.higher.ensures.value ∙ c.in-Less.is)))
+    (compare_below g.M.Monomial.order (v c.args.mono) (v c.in-Some.front) (monos.vars c.args.mono ∙ sym (monos.vars c.in-Some.front)) (sym c.higher.ensures.value ∙ c.in-Less.is)))
 
 pub returns-in_default : goal.returns-in_default
 returns-in_default g c =
