@@ -15,6 +15,7 @@ use Rattle.divide_workers.specs.Working.{IsWorking}
 use Rattle.divide_workers.specs.Steps.{Works, FindsNothing, HoldsBack, Pushes}
 use Rattle.divide_workers.specs.Stops.{StaysUntold, IsReceipt, IsLastReceipt, WaitsInVain}
 use Rattle.divide_workers.proofs.Working.{works_again}
+use Rattle.term_ring.proofs.Lists.{prefix_length}
 
 -- ---- what stays while it works
 pub works_then : (a b c d : WorkerView) → Works a b → Works b c → Works c d → Works a d
@@ -24,12 +25,9 @@ works_then a b c d f g h = works_again a b d f (works_again b c d g h)
 abbrev pub untold_places : WorkerView → ℕ
 untold_places v = v.row.places - length v.notes
 
-longer : {A : Type 0} (xs ys : List A) → IsPrefix xs ys → length xs ≤ length ys
-longer xs ys p = let e = ap length p.1 in let l = length-append xs p.0 in omega (arith, e, l)
-
 pub fewer_untold : (a b c : WorkerView) → Works a b → Works b c → length b.notes < length c.notes → length c.notes ≤ b.row.places → untold_places c < untold_places a
 fewer_untold a b c f g more most =
-    let l = longer a.notes b.notes f.notes in
+    let l = prefix_length a.notes b.notes f.notes in
     let p : b.row.places ≡ a.row.places = ap (λ r. r.places) f.row in
     let q : c.row.places ≡ b.row.places = ap (λ r. r.places) g.row in
     omega (arith, l, p, q, more, most)

@@ -11,30 +11,21 @@ use Rattle.sdmp_laws.specs.LongDivision.{quotient_list}
 use Rattle.sdmp_laws.proofs.Ints.{red_zero}
 use Rattle.sdmp_laws.proofs.OrderLemmas.{order_facts, degree_times, numbers, Three, is_less, is_equal, is_greater}
 use Rattle.sdmp_laws.proofs.TermsLemmas.{total_above}
-use Rattle.sdmp_laws.proofs.DegreeLemmas.{degrees_poly}
+use Rattle.sdmp_laws.proofs.DegreeLemmas.{degrees_poly, degrees_append, degrees_negated}
 use Rattle.sdmp_laws.proofs.LongLemmas.{quotient_list_is}
+use Rattle.sdmp_laws.proofs.NextTerm.{at_then_at}
 use Rattle.divide_wholes.specs.Wholes.{AllUnderFront, AllBelowFront, IsBeyond}
 use Rattle.divide_wholes.specs.Row.{RowNote, RowTerm, RowFront, row_terms, front_after, known_after, RowMayFollow, RowCarryAfter, RowCarry}
 use Rattle.divide_wholes.proofs.WorkerLemmas.{later_below}
 use Rattle.dividing_rounds.specs.Stalls.{IsLowered}
 use Rattle.divide_workers.specs.Fronts.{PlainFront, front_mono, IsPastBy, UnderBy, IsAhead, IsPast, FrontFalls, may_stay}
-use Rattle.divide_workers.proofs.Falling.{weaker_past, at_then_at}
+use Rattle.divide_workers.proofs.Falling.{weaker_past}
 
 -- ---- degrees of quotient terms
 all_lower : (ord : Order) (D : ℕ) (m : List ℕ) (A : List Term) → D < degree m → AllDegrees D A → AllBelow ord m A
 unfolding AllBelow AllDegrees
 all_lower ord D m [] l h = tt
 all_lower ord D m (t ∷ A) l h = ((order_facts ord).degree_first t.monomial m (let k = h.0 in omega (arith, l, k)), all_lower ord D m A l h.1)
-
-degrees_append : (D : ℕ) (A B : List Term) → AllDegrees D A → AllDegrees D B → AllDegrees D (A ++ B)
-unfolding AllDegrees
-degrees_append D [] B h k = k
-degrees_append D (t ∷ A) B h k = (h.0, degrees_append D A B h.1 k)
-
-degrees_negated : (D : ℕ) (A : List Term) → AllDegrees D A → AllDegrees D (negated A)
-unfolding AllDegrees negated term_neg
-degrees_negated D [] h = tt
-degrees_negated D (t ∷ A) h = (h.0, degrees_negated D A h.1)
 
 degrees_row : (D E : ℕ) (t : Term) (A : List Term) → degree t.monomial + E ≤ D → AllDegrees E A → AllDegrees D (row t A)
 unfolding AllDegrees row term_times

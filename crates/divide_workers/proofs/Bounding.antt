@@ -1,5 +1,5 @@
 -- How many rounds a division takes at most, and what its merge says in the end.
-use Rattle.std.proofs.Common.{◌≡◌, ℕ, ◌+◌, ◌-◌, ◌<◌, ◌≤◌, List, length, slice_index_or, Some, None, sym, ap, ◌∙◌, subst, arith}
+use Rattle.std.proofs.Common.{◌≡◌, ℕ, ◌+◌, ◌-◌, ◌<◌, ◌≤◌, List, length, slice_index_or, Some, None, sym, ap, ◌∙◌, subst, arith, [], ◌∷◌}
 use Rattle.std.proofs.lemmas.List.{length-drop}
 use mathlib.Core.List.{IsPrefix}
 use Rattle.sdmp_laws.specs.Poly.{Term}
@@ -101,3 +101,7 @@ module _ (lim : ℕ) (m : DivideView) (s : IsSound lim m) where
   unfolding IsOutcome IsVerdict
   passes_terms t free spare v =
       let r = long_now state.division state.q t s.fit.accepted (begins t v.0) v.1 v.2 in (s.fit.accepted, r.0, r.1)
+
+pub a_worker : (team : List WorkerView) → 0 < length team → WorkerView
+a_worker [] l = absurd (omega (arith, l))
+a_worker (v ∷ team) l = v

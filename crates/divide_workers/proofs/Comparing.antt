@@ -4,7 +4,7 @@ use Rattle.std.specs.declared.cmp.Ordering.{Ordering}
 use Rattle.std.specs.declared.cmp.Ordering.TheVariants.{Less, Equal, Greater}
 use Rattle.sdmp_laws.specs.Order.{Order, Below, compare}
 use Rattle.sdmp_laws.proofs.OrderLemmas.{order_facts}
-use Rattle.sdmp_laws.proofs.CompareLemmas.{compare_less, compare_greater, compare_same}
+use Rattle.sdmp_laws.proofs.CompareLemmas.{compare_less, compare_greater, compare_same, not_both}
 use Rattle.divide_workers.specs.Fronts.{PlainFront, IsPastBy, FrontFalls, may_stay}
 
 -- what a comparison of a with b tells
@@ -22,9 +22,6 @@ compared ord a b o l e = pick ((order_facts ord).total a b l)
     pick (inr (inr h)) = subst (Tells ord a b) (sym (e ∙ compare_greater ord a b h)) h
 
 -- ---- whether a monomial is past a front
-not_both : (ord : Order) (a b : List ℕ) → Below ord a b → Below ord b a → ⊥
-not_both ord a b h k = (order_facts ord).irreflexive a ((order_facts ord).transitive a b a h k)
-
 pub past_less : (s : Bool) (ord : Order) (f x : List ℕ) → Below ord x f → IsPastBy s ord f x → ⊥
 unfolding IsPastBy
 past_less false ord f x h k = not_both ord x f h k

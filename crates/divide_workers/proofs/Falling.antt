@@ -4,25 +4,10 @@ use Rattle.sdmp_laws.specs.Order.{Order, ◌⋅◌, Below}
 use Rattle.sdmp_laws.specs.Poly.{Term, lm}
 use Rattle.sdmp_laws.specs.Division.{Division, AtOrAbove}
 use Rattle.sdmp_laws.proofs.OrderLemmas.{order_facts}
+use Rattle.sdmp_laws.proofs.NextTerm.{at_then_below, below_then_at, at_then_at, times_at}
 use Rattle.divide_workers.specs.Fronts.{PlainFront, IsPastBy, IsPast, FrontFalls, may_stay}
 
 -- ---- at or below
-pub at_then_below : (ord : Order) (a b c : List ℕ) → AtOrAbove ord a b → Below ord b c → Below ord a c
-at_then_below ord a b c (inl e) k = subst (λ (m : List ℕ). Below ord m c) (sym e) k
-at_then_below ord a b c (inr h) k = (order_facts ord).transitive a b c h k
-
-pub below_then_at : (ord : Order) (a b c : List ℕ) → Below ord a b → AtOrAbove ord b c → Below ord a c
-below_then_at ord a b c h (inl e) = subst (λ (m : List ℕ). Below ord a m) e h
-below_then_at ord a b c h (inr k) = (order_facts ord).transitive a b c h k
-
-pub at_then_at : (ord : Order) (a b c : List ℕ) → AtOrAbove ord a b → AtOrAbove ord b c → AtOrAbove ord a c
-at_then_at ord a b c (inl e) k = subst (λ (m : List ℕ). AtOrAbove ord m c) (sym e) k
-at_then_at ord a b c (inr h) k = inr (below_then_at ord a b c h k)
-
-pub at_up : (ord : Order) (a b c : List ℕ) → length a ≡ length b → AtOrAbove ord a b → AtOrAbove ord (a ⋅ c) (b ⋅ c)
-at_up ord a b c l (inl e) = inl (ap (λ (m : List ℕ). m ⋅ c) e)
-at_up ord a b c l (inr h) = inr ((order_facts ord).compatible a b c l h)
-
 -- ---- what is past a front
 pub weaker_past : (s : Bool) (ord : Order) (a b : List ℕ) → IsPastBy s ord a b → AtOrAbove ord a b
 unfolding IsPastBy
@@ -31,9 +16,9 @@ weaker_past true ord a b h = h
 
 falls_by : (s t : Bool) (ord : Order) (a b g x : List ℕ) → length b ≡ length a → IsPastBy (may_stay s t) ord b a → IsPastBy s ord (a ⋅ g) x → IsPastBy t ord (b ⋅ g) x
 unfolding IsPastBy
-falls_by false false ord a b g x l f h = at_then_below ord (b ⋅ g) (a ⋅ g) x (at_up ord b a g l f) h
-falls_by false true ord a b g x l f h = inr (at_then_below ord (b ⋅ g) (a ⋅ g) x (at_up ord b a g l f) h)
-falls_by true true ord a b g x l f h = at_then_at ord (b ⋅ g) (a ⋅ g) x (at_up ord b a g l f) h
+falls_by false false ord a b g x l f h = at_then_below ord (b ⋅ g) (a ⋅ g) x (times_at ord b a g l f) h
+falls_by false true ord a b g x l f h = inr (at_then_below ord (b ⋅ g) (a ⋅ g) x (times_at ord b a g l f) h)
+falls_by true true ord a b g x l f h = at_then_at ord (b ⋅ g) (a ⋅ g) x (times_at ord b a g l f) h
 falls_by true false ord a b g x l f h = below_then_at ord (b ⋅ g) (a ⋅ g) x ((order_facts ord).compatible b a g l f) h
 
 -- the vector of a front has n places

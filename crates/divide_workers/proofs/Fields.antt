@@ -31,6 +31,8 @@ use Rattle.canonical_terms.specs.declared.term.TermOf.{TermOf}
 use Rattle.dividing_rounds.specs.Stalls.{IsLowered}
 use Rattle.dividing_rounds.proofs.WorkloadLemmas.{has_nothing}
 use Rattle.divide_merge.specs.Names.{RowIdentity, IsFit, IsLooking, script_division, reader_row}
+use Rattle.divide_merge.proofs.OneAnswer.{top_one}
+use Rattle.divide_merge.proofs.States.{latest_new, latest_term}
 use Rattle.term_ring.specs.Plain.{modulus_of}
 use Rattle.term_ring.specs.Rule.{LeavesNoRoom}
 use Rattle.term_ring.specs.Spelling.{note_of, notes_of}
@@ -56,7 +58,7 @@ use Rattle.divide_workers.specs.declared.mark.Mark.{Mark}
 use Rattle.divide_workers.proofs.Falling.{IsFrontVector, falls_itself, falls_again}
 use Rattle.divide_workers.proofs.Ahead.{quotient_low}
 use Rattle.divide_workers.proofs.Stepping.{Hears, front_of_term, learns, takes_front, ends_change, hands_out, sends_term, may_send_term, sends_mark, may_send_mark}
-use Rattle.divide_workers.proofs.Paying.{start_pays, one_top, mark_at_term, mark_at_mark, some_length}
+use Rattle.divide_workers.proofs.Paying.{start_pays, some_length}
 use Rattle.divide_workers.proofs.Working.{works_itself, works_again}
 
 -- ---- a term that may be learned
@@ -422,7 +424,7 @@ module _ {X M E : Type 0} (vector : M → List ℕ) (value : E → ℤ) (belongs
 
         top_is : may.top ≡ vector t.mono
         top_is =
-            let e = one_top V.state.division.ord rows.unread (Some may.top) (Some (vector t.mono)) may.is_top (subst (λ (o : Order). IsUnreadTop o rows.unread (Some (vector t.mono))) (sym s.ordered) (top_of vector ord rows.unread (Some t.mono) out.greatest)) in
+            let e = top_one V.state.division.ord rows.unread (Some may.top) (Some (vector t.mono)) may.is_top (subst (λ (o : Order). IsUnreadTop o rows.unread (Some (vector t.mono))) (sym s.ordered) (top_of vector ord rows.unread (Some t.mono) out.greatest)) in
             cc e
 
         past : IsPast V.state.division (worker_rows V.state) V.front (vector t.mono)
@@ -553,7 +555,7 @@ module _ {X M E : Type 0} (vector : M → List ℕ) (value : E → ℤ) (belongs
         with_writer writer' kept m name writing
         (subst (IsWorking lim) (seen_so writer' kept m name writing (V.state.sent ++ MarkNote (length V.state.known) (vector_of vector m.top) ∷ []) (kept_terms vector value kept) notes refl)
         (sends_mark lim V (vector_of vector m.top) (head_seen writer') (full_looks writer') s.working none tells.1 rises))
-        ((λ i. (tells.0 i, vector_of vector m.top)) ∙ sym (ap latest_mark notes ∙ mark_at_mark V.state.sent (length V.state.known) (vector_of vector m.top))) s.kept_belongs
+        ((λ i. (tells.0 i, vector_of vector m.top)) ∙ sym (ap latest_mark notes ∙ latest_new V.state.sent (length V.state.known) (vector_of vector m.top))) s.kept_belongs
 
     pub pushes_mark : (writer' : Writer X M E) → writer_name writer' ≡ writer_name writer → IsWriting writer' → sent writer' ≡ sent writer ++ note.Mark m.known m.top ∷ [] → head_seen writer ≤ head_seen writer' → full_looks writer' ≡ full_looks writer
         → Pushes V (view_of vector value worker rows writer' reader front kept)
@@ -566,7 +568,7 @@ module _ {X M E : Type 0} (vector : M → List ℕ) (value : E → ℤ) (belongs
           same = sym (seen_so writer' kept m name writing (notes_of vector value (sent writer')) [] refl none);
           marked = λ z. record {
             top = vector_of vector m.top;
-            mark = ap latest_mark (after ∙ ap (λ (x : Note). V.state.sent ++ x ∷ []) (sym note_is)) ∙ mark_at_mark V.state.sent (length V.state.known) (vector_of vector m.top);
+            mark = ap latest_mark (after ∙ ap (λ (x : Note). V.state.sent ++ x ∷ []) (sym note_is)) ∙ latest_new V.state.sent (length V.state.known) (vector_of vector m.top);
             is_top = subst (λ (k : Order). IsUnreadTop k rows.unread (vector_of vector m.top)) (ap (λ (x : Script). (script_division x).ord) (sym (ap (λ (r : RingName). r.script) name))) tells.1;
           };
         }
@@ -588,7 +590,7 @@ module _ {X M E : Type 0} (vector : M → List ℕ) (value : E → ℤ) (belongs
     kept_sent =
         with_writer writer' None marked name writing
         (subst (IsWorking lim) (seen_so writer' None marked name writing (V.state.sent ++ TermNote (term_of vector value t) ∷ []) [] term_after refl) (sends_term lim V (term_of vector value t) (head_seen writer') (full_looks writer') s.working one))
-        (s.mark_is ∙ sym (ap latest_mark term_after ∙ mark_at_term V.state.sent (term_of vector value t))) tt
+        (s.mark_is ∙ sym (ap latest_mark term_after ∙ latest_term V.state.sent (term_of vector value t))) tt
 
     pub pushes_term : head_seen writer ≤ head_seen writer' → full_looks writer' ≡ full_looks writer → Pushes V (view_of vector value worker rows writer' reader front None)
     pushes_term head looks = record {

@@ -8,6 +8,7 @@ use Rattle.sdmp_laws.specs.LongDivision.{quotient_list}
 use Rattle.whole_laws.specs.Wholes.{notes_of}
 use Rattle.divide_wholes.specs.Row.{row_terms}
 use Rattle.term_ring.specs.Names.{RingName}
+use Rattle.term_ring.proofs.Lists.{prefix_length}
 use Rattle.dividing_rounds.specs.Runs.{DivideRun, workload_count, run_row}
 use Rattle.dividing_rounds.specs.Rounds.{progress, most_rounds}
 use Rattle.dividing_rounds.specs.Stalls.{IsLowered}
@@ -20,7 +21,7 @@ use Rattle.divide_workers.specs.Views.{WorkerView}
 use Rattle.divide_workers.specs.Working.{IsWorking}
 use Rattle.divide_workers.specs.Rounds.{AreMembers, IsTeam, HasPlace, IsRound, next_of, rounds_bound}
 use Rattle.divide_workers.specs.declared.rounds.Next.TheVariants.{Over, Row, Round}
-use Rattle.divide_workers.proofs.Bounding.{all_fit}
+use Rattle.divide_workers.proofs.Bounding.{all_fit, a_worker}
 
 -- ---- a merge with more room
 module _ (a b : DivideView) (run : b.run ≡ a.run) (row : b.row ≡ a.row) where
@@ -109,20 +110,13 @@ most_more d W m n l = count (length d.f) (length d.g - 1) (m * (length d.g - 1))
     count : (f g p q v w : ℕ) → p ≤ q → v ≤ w → 1 + 4 * (f + p) + m + v ≤ 1 + 4 * (f + q) + n + w
     count f g p q v w h k = omega (arith, l, h, k)
 
-prefix_shorter : {X : Type 0} (xs ys : List X) → IsPrefix xs ys → length xs ≤ length ys
-prefix_shorter xs ys p = let e : length ys ≡ length xs + length p.0 = ap length (sym p.1) ∙ length-append xs p.0 in omega (arith, e)
-
 -- the progress of a merge with its team is below the bound
 progress_below : (lim : ℕ) (m : DivideView) (team : List WorkerView) → IsSound lim m → IsTeam m team → All (IsWorking lim) team → progress m.run < rounds_bound m.run.state.division m.run.state.workers
 progress_below lim m team s t working =
-    let y = first_of team (let a = t.members.long in let b = s.rings_count in let c = s.some in omega (arith, a, b, c)) in
+    let y = a_worker team (let a = t.members.long in let b = s.rings_count in let c = s.some in omega (arith, a, b, c)) in
     let p = progress_fits m.run s.some s.whole (all_fit lim m team y.ring y s t (λ k l. working k y l)) in
-    let l = most_more m.run.state.division m.run.state.workers (length m.run.state.q) (length (quotient_list m.run.state.division)) (prefix_shorter m.run.state.q (quotient_list m.run.state.division) s.whole.whole.quotient) in
+    let l = most_more m.run.state.division m.run.state.workers (length m.run.state.q) (length (quotient_list m.run.state.division)) (prefix_length m.run.state.q (quotient_list m.run.state.division) s.whole.whole.quotient) in
     omega (arith, p, l)
-  where
-    first_of : (team : List WorkerView) → 0 < length team → WorkerView
-    first_of [] l = absurd (omega (arith, l))
-    first_of (v ∷ team) l = v
 
 -- merges of the same rings make one division with as many workers
 same_division : (lim : ℕ) (a b : DivideView) → IsSound lim a → IsSound lim b → b.rings ≡ a.rings → b.run.state.division ≡ a.run.state.division

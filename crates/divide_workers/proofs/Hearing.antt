@@ -12,6 +12,7 @@ use Rattle.divide_wholes.specs.Row.{row_terms}
 use Rattle.divide_wholes.specs.Workers.{WorkerState, worker_rows, worker_script}
 use Rattle.term_ring.specs.Names.{RingName, NoneBelow}
 use Rattle.term_ring.specs.Sending.{IsRefused}
+use Rattle.term_ring.proofs.Lists.{prefix_length}
 use Rattle.dividing_rounds.specs.Runs.{DivideRun}
 use Rattle.dividing_rounds.specs.Stalls.{HasWaited, IsHeld, IsLowered}
 use Rattle.dividing_rounds.proofs.StallLemmas.{heard_has_waited}
@@ -26,7 +27,7 @@ use Rattle.divide_workers.specs.Rounds.{Moves, Meets, IsMember, HasHeard, IsUpTo
 use Rattle.divide_workers.proofs.Ahead.{same_begin, lowered_again}
 use Rattle.divide_workers.proofs.Falling.{IsFrontVector}
 use Rattle.divide_workers.proofs.Paying.{few_sent}
-use Rattle.divide_workers.proofs.Working.{more_terms}
+use Rattle.divide_workers.proofs.Working.{more_terms, known_below, learned_count}
 
 -- ---- whose worker it is
 pub its_division : (lim : ℕ) (m : DivideView) (v : WorkerView) (z : RingName) (k : ℕ) → IsSound lim m → IsWorking lim v → IsMember m.rings m.row k v → (v.state.division ≡ m.run.state.division) × (v.state.workers ≡ m.run.state.workers)
@@ -69,9 +70,6 @@ few_notes lim v w =
     let r : length (worker_rows v.state) < 2 ^ 30 = let a = rows_length v.state.division v.state.workers v.state.worker in let b = w.fit.few_divisor in omega (arith, a, b) in
     let p = small_product (length v.state.known) (length (worker_rows v.state)) k r in
     let f = few_sent v.state v.front w.paid in omega (arith, k, p, f)
-  where
-    known_below : (n : ℕ) → (quotient_terms_limit ≤ n → ⊥) → n < 2 ^ 30
-    known_below n h = omega (arith, h)
 
 -- ---- what was heard
 -- a worker whose ring was full when it had met the merge would have had notes taken
@@ -158,12 +156,9 @@ module _ (lim : ℕ) (a e d : DivideView) (k : ℕ) (v0 v1 v2 : WorkerView) (z :
       let l : length v2.state.sent ≤ slice_index_or e.tails v2.state.worker 0 = met.reader_seen in
       let t = i.tails.each v2.state.worker in
       let s : slice_index_or d.tails v2.state.worker 0 ≡ length (notes_of d.run.state.taken v2.state.worker) = subst (λ (w : ℕ). slice_index_or d.tails w 0 ≡ length (notes_of d.run.state.taken w)) (sym number2) i.starved in
-      let q = prefix_shorter (notes_of d.run.state.taken v2.state.worker) v2.state.sent p in
+      let q = prefix_length (notes_of d.run.state.taken v2.state.worker) v2.state.sent p in
       same_begin (notes_of d.run.state.taken v2.state.worker) v2.state.sent v2.state.sent p ([], append-nil v2.state.sent) (both _ _ _ _ q l t s)
     where
-      prefix_shorter : {N : Type 0} (xs ys : List N) → IsPrefix xs ys → length xs ≤ length ys
-      prefix_shorter xs ys p = let e : length ys ≡ length xs + length p.0 = ap length (sym p.1) ∙ length-append xs p.0 in omega (arith, e)
-
       both : (t s a b : ℕ) → t ≤ s → s ≤ a → a ≤ b → b ≡ t → t ≡ s
       both t s a b h k l m = omega (arith, h, k, l, m)
 
@@ -210,10 +205,7 @@ module _ (lim : ℕ) (a e d : DivideView) (k : ℕ) (v0 v1 v2 : WorkerView) (z :
       let more = more_terms v0.notes v1.notes i.moves.works.notes in
       let start : v1.row.name.start ≡ d.run.state.start = ap (λ r. r.name.start) (sym (ap (λ (v : WorkerView). v.row) i.meets.same) ∙ member2.row_is) ∙ i.sound.row_start in
       let begun : a.run.state.start ≡ d.run.state.start = ap (λ (r : DivideRun). r.state.start) (sym same_run) in
-      count (length v2.state.known) (length v1.state.known) (length v0.state.known) (length (row_terms v2.notes)) (length (row_terms v1.notes)) (length (row_terms v0.notes)) v1.row.name.start d.run.state.start a.run.state.start known notes step first more start begun
-    where
-      count : (k2 k1 k0 t2 t1 t0 s r b : ℕ) → k2 ≡ k1 → t2 ≡ t1 → k1 ≡ max k0 (s + t1) → k0 ≡ b + t0 → t0 ≤ t1 → s ≡ r → b ≡ r → k2 ≡ r + t2
-      count k2 k1 k0 t2 t1 t0 s r b e f g h l m n = omega (arith, e, f, g, h, l, m, n)
+      learned_count (length v2.state.known) (length v1.state.known) (length v0.state.known) (length (row_terms v2.notes)) (length (row_terms v1.notes)) (length (row_terms v0.notes)) v1.row.name.start d.run.state.start a.run.state.start known notes step first more start begun
 
   front2 : v2.front ≡ v1.front
   front2 = ap (λ (v : WorkerView). v.front) i.meets.same

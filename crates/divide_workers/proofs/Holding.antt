@@ -7,10 +7,11 @@ use Rattle.sdmp_laws.specs.Division.{Division, IsAccepted, AtOrAbove}
 use Rattle.sdmp_laws.proofs.OrderLemmas.{order_facts, alike_same, degree_times}
 use Rattle.sdmp_laws.proofs.Tests.{or_out}
 use Rattle.sdmp_laws.proofs.LongLemmas.{below_degree}
-use Rattle.sdmp_laws.proofs.DegreeLemmas.{degrees_poly}
+use Rattle.sdmp_laws.proofs.DegreeLemmas.{degrees_poly, degrees_below}
 use Rattle.sdmp_laws.proofs.ListLemmas.{All-front, each_degree, Decreasing-every, AllDegrees-every}
 use Rattle.whole_laws.specs.Notes.{has, after_lead, divisor_rows, IsProductMonomial}
 use Rattle.divide_wholes.specs.Workers.{IsUnreadTop, worker_rows}
+use Rattle.divide_wholes.proofs.WorkerLemmas.{rows_decreasing}
 use Rattle.row_merge.proofs.LearnedRows.{lead_degree}
 use Rattle.dividing_rounds.specs.Stalls.{IsHeld}
 use Rattle.dividing_rounds.proofs.WorkloadLemmas.{has_nothing}
@@ -19,7 +20,8 @@ use Rattle.divide_workers.specs.Views.{WorkerView}
 use Rattle.divide_workers.specs.Working.{IsWorking}
 use Rattle.divide_workers.specs.Steps.{IsAllHeld, IsFrontier, MayHand}
 use Rattle.divide_workers.proofs.Ahead.{quotient_low}
-use Rattle.divide_workers.proofs.Paying.{one_top}
+use Rattle.divide_merge.proofs.OneAnswer.{top_one}
+use Rattle.divide_merge.proofs.Degrees.{degree_has}
 
 -- ---- by the order
 pub held_by : (s : Bool) (ord : Order) (a x : List ℕ) → length a ≡ length x → (IsPastBy s ord a x → ⊥) → AtOrAbove ord x a
@@ -38,15 +40,6 @@ held_by true ord a x l n = pick ((order_facts ord).total a x l)
     pick (inr (inr h)) = inr h
 
 -- ---- by the degree
-all_has : (D : ℕ) (m : List ℕ) (A : List Term) → All (λ (t : Term). degree t.monomial ≤ D) A → has m A ≡ true → degree m ≤ D
-unfolding has
-all_has D m [] h e = absurd (true≢false (sym e))
-all_has D m (t ∷ A) h e = pick (λ k. all_has D m A (All-tail (λ (u : Term). degree u.monomial ≤ D) t A h) k) (or_out (alike t.monomial m) (has m A) e)
-  where
-    pick : (has m A ≡ true → degree m ≤ D) → (alike t.monomial m ≡ true) ⊎ (has m A ≡ true) → degree m ≤ D
-    pick later (inl k) = subst (λ (x : List ℕ). degree x ≤ D) (alike_same t.monomial m k) (All-head (λ (u : Term). degree u.monomial ≤ D) t A h)
-    pick later (inr k) = later k
-
 known_has : (d : Division) (m : List ℕ) (A : List Term) → All (λ (t : Term). degree t.monomial + degree (lm d.g) ≤ degree (lm d.f)) A → has m A ≡ true → degree m + degree (lm d.g) ≤ degree (lm d.f)
 unfolding has
 known_has d m [] h e = absurd (true≢false (sym e))
@@ -56,24 +49,10 @@ known_has d m (t ∷ A) h e = pick (λ k. known_has d m A (All-tail (λ (u : Ter
     pick later (inl k) = subst (λ (x : List ℕ). degree x + degree (lm d.g) ≤ degree (lm d.f)) (alike_same t.monomial m k) (All-head (λ (u : Term). degree u.monomial + degree (lm d.g) ≤ degree (lm d.f)) t A h)
     pick later (inr k) = later k
 
-all_lower : (ord : Order) (m : List ℕ) (A : List Term) → AllBelow ord m A → AllDegrees (degree m) A
-unfolding AllBelow AllDegrees
-all_lower ord m [] h = tt
-all_lower ord m (t ∷ A) h = (below_degree ord t.monomial m h.0, all_lower ord m A h.1)
-
 falling_low : (ord : Order) (A : List Term) → Decreasing ord A → AllDegrees (degree (lm A)) A
 unfolding Decreasing AllDegrees lm
 falling_low ord [] h = tt
-falling_low ord (t ∷ A) h = (omega arith, all_lower ord t.monomial A h.0)
-
-later_falls : (ord : Order) (A : List Term) → Decreasing ord A → Decreasing ord (after_lead A)
-unfolding Decreasing after_lead
-later_falls ord [] h = tt
-later_falls ord (t ∷ A) h = h.1
-
-rows_fall : (d : Division) (W w : ℕ) → IsAccepted d → Decreasing d.ord (divisor_rows d.g W w)
-unfolding divisor_rows
-rows_fall d W w a = Decreasing-every d.ord W w 1 (after_lead d.g) (later_falls d.ord d.g a.divisor.decreasing)
+falling_low ord (t ∷ A) h = (omega arith, degrees_below ord t.monomial A h.0)
 
 -- a front above the limit on degrees is above all that the worker holds
 pub held_by_degree : (lim : ℕ) (v : WorkerView) (m x : List ℕ) → IsWorking lim v → degree (lm v.state.division.f) ≤ lim → lim < degree m → IsProductMonomial v.state.known (worker_rows v.state) x
@@ -84,7 +63,7 @@ held_by_degree lim v m x w low high p =
     let P : Term → Type 0 = λ t. degree t.monomial + degree (lm d.g) ≤ degree (lm d.f) in
     let known : All P v.state.known = All-front P v.state.known w.whole.knows.0 (subst (λ (Q : List Term). All P Q) (sym w.whole.knows.1) (quotient_low d w.fit.accepted)) in
     let a = known_has d p.left.monomial v.state.known known p.left_in in
-    let b = all_has (degree (lm rows)) p.right.monomial rows (each_degree (degree (lm rows)) rows (falling_low d.ord rows (rows_fall d v.state.workers v.state.worker w.fit.accepted))) p.right_in in
+    let b = degree_has (degree (lm rows)) rows p.right.monomial (falling_low d.ord rows (rows_decreasing d v.state.workers v.state.worker w.fit.accepted)) p.right_in in
     let e = ap degree p.is ∙ degree_times p.left.monomial p.right.monomial in
     let f = degree_times x (lm d.g) in let g = degree_times m (lm rows) in
     inr ((order_facts d.ord).degree_first (x ⋅ lm d.g) (m ⋅ lm rows) (omega (arith, low, high, a, b, e, f, g)))
@@ -128,7 +107,7 @@ top_low lim v x w h =
     let P : Term → Type 0 = λ t. degree t.monomial + degree (lm d.g) ≤ degree (lm d.f) in
     let known : All P v.state.known = All-front P v.state.known w.whole.knows.0 (subst (λ (Q : List Term). All P Q) (sym w.whole.knows.1) (quotient_low d w.fit.accepted)) in
     let a = known_has d p.left.monomial v.state.known known p.left_in in
-    let b = all_has (degree (lm d.g)) p.right.monomial rows (each_degree (degree (lm d.g)) rows (own_rows_low lim v w)) p.right_in in
+    let b = degree_has (degree (lm d.g)) rows p.right.monomial (own_rows_low lim v w) p.right_in in
     let e = ap degree p.is ∙ degree_times p.left.monomial p.right.monomial in
     let f = lead_degree lim d.f w.fit.dividend.degrees in omega (arith, a, b, e, f)
 
@@ -152,7 +131,7 @@ held_above lim v f w e high (Some x) h =
 
 pub held_empty : (v : WorkerView) → IsUnreadTop v.state.division.ord v.state.unread None → IsAllHeld v
 unfolding IsHeld
-held_empty v n top h = subst (IsHeld v.state.division (worker_rows v.state) (front_mono v.front)) (one_top v.state.division.ord v.state.unread None top n h) tt
+held_empty v n top h = subst (IsHeld v.state.division (worker_rows v.state) (front_mono v.front)) (top_one v.state.division.ord v.state.unread None top n h) tt
 
 -- ---- the frontier
 pub frontier_none : (v : WorkerView) → IsAllHeld v → IsFrontier v None
@@ -183,4 +162,4 @@ held_at_top v a x h l is_top not top t =
     let d = v.state.division in let rows = worker_rows v.state in
     let y = x ⋅ lm d.g in
     let at : AtOrAbove d.ord y (h.0.mono ⋅ lm rows) = subst (AtOrAbove d.ord y) h.2 (held_by a.is_strict d.ord a.mono y l not) in
-    subst (IsHeld d rows (front_mono v.front)) (one_top d.ord v.state.unread (Some x) top is_top t) (subst (λ (o : Option PlainFront). IsHeld d rows (front_mono o) (Some x)) (sym h.1) at)
+    subst (IsHeld d rows (front_mono v.front)) (top_one d.ord v.state.unread (Some x) top is_top t) (subst (λ (o : Option PlainFront). IsHeld d rows (front_mono o) (Some x)) (sym h.1) at)

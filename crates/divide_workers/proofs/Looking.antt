@@ -42,6 +42,7 @@ use Rattle.divide_workers.proofs.Falling.{falls_itself}
 use Rattle.divide_workers.proofs.Ahead.{quotient_low, followed}
 use Rattle.divide_workers.proofs.Stepping.{Hears, front_of_term, one_more_term, learns, next_term, hears_term, hears_front, ends_change}
 use Rattle.divide_workers.proofs.Fields.{may_learn_next, next_found}
+use Rattle.divide_workers.proofs.Working.{known_below}
 
 -- ---- what always holds of it
 -- a front that fell by some news falls no more by them
@@ -154,10 +155,7 @@ told_low lim v t w c =
     let low = lead_degree lim d.f w.fit.dividend.degrees in omega (arith, one, low)
 
 few_known : (lim : ℕ) (v : WorkerView) → IsWorking lim v → length v.state.known < 2 ^ 30
-few_known lim v w = below (length v.state.known) (λ h. w.within (inr h))
-  where
-    below : (n : ℕ) → (quotient_terms_limit ≤ n → ⊥) → n < 2 ^ 30
-    below n h = omega (arith, h)
+few_known lim v w = known_below (length v.state.known) (λ h. w.within (inr h))
 
 -- ---- the fields
 -- the reader of the row looked, and found the note x

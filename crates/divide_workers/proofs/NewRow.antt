@@ -25,6 +25,7 @@ use Rattle.divide_workers.specs.Rounds.{IsMember, HasHeard, IsUpToDate, IsTeam, 
 use Rattle.divide_workers.proofs.Hearing.{its_division}
 use Rattle.divide_workers.proofs.Bounding.{known_few}
 use Rattle.divide_workers.proofs.Teams.{caught_rows, catches_up}
+use Rattle.divide_workers.proofs.Working.{known_below}
 
 -- a merge m and its team; then the merge has a new row of so many places, and each worker room for as many terms
 pub record HasNewRow (lim : ℕ) (m n : DivideView) (places : ℕ) (a b : List WorkerView) : Type 0 where
@@ -152,10 +153,7 @@ module _ (lim : ℕ) (m n : DivideView) (places : ℕ) (a b : List WorkerView) (
 -- ---- what the workers are given
 -- the terms found are fewer than a quotient may have
 pub found_few : (lim : ℕ) (m : DivideView) → IsSound lim m → length m.run.state.q < 2 ^ 30
-found_few lim m s = below (length m.run.state.q) (λ h. s.whole.whole.within (inr h))
-  where
-    below : (n : ℕ) → (quotient_terms_limit ≤ n → ⊥) → n < 2 ^ 30
-    below n h = omega (arith, h)
+found_few lim m s = known_below (length m.run.state.q) (λ h. s.whole.whole.within (inr h))
 
 -- one optional monomial as a merge and as a worker see it
 pub same_vector : {M : Type 0} (vector : M → List ℕ) (front : Option M) → vector_of vector front ≡ merge_vector vector front

@@ -15,60 +15,17 @@ use Rattle.divide_wholes.specs.Workers.{WorkerState, MarkRises, IsUnreadTop, wor
 use Rattle.divide_workers.specs.Fronts.{PlainFront, IsPast}
 use Rattle.dividing_rounds.specs.Counting.{handed_out}
 use Rattle.dividing_rounds.proofs.CountingLemmas.{count_start, count_learn, count_hand, count_send, count_mark, counted_sent}
+use Rattle.dividing_rounds.proofs.StallLemmas.{within_at}
+use Rattle.dividing_rounds.proofs.WorkloadLemmas.{has_nothing}
 use Rattle.divide_workers.specs.Paying.{AllAtTop, HasPaid, IsFewSent}
-
--- ---- the latest mark
-mark_after-append : (m : ℕ × Option (List ℕ)) (a b : List Note) → mark_after m (a ++ b) ≡ mark_after (mark_after m a) b
-unfolding mark_after
-mark_after-append m [] b = refl
-mark_after-append m (TermNote t ∷ a) b = mark_after-append m a b
-mark_after-append m (MarkNote k top ∷ a) b = mark_after-append (k, top) a b
-mark_after-append m (EndNote ∷ a) b = mark_after-append m a b
-
-pub mark_at_term : (a : List Note) (t : Term) → latest_mark (a ++ TermNote t ∷ []) ≡ latest_mark a
-unfolding latest_mark mark_after
-mark_at_term a t = mark_after-append (0, None) a (TermNote t ∷ [])
-
-pub mark_at_mark : (a : List Note) (k : ℕ) (top : Option (List ℕ)) → latest_mark (a ++ MarkNote k top ∷ []) ≡ (k, top)
-unfolding latest_mark mark_after
-mark_at_mark a k top = mark_after-append (0, None) a (MarkNote k top ∷ [])
+use Rattle.row_merge.proofs.Places.{all_at_or_below}
+use Rattle.divide_merge.proofs.States.{latest_new, latest_term}
 
 -- ---- tops
 each_at : (ord : Order) (m : List ℕ) (A : List Term) → AllAtOrBelow ord m A → All (λ (t : Term). AtOrAbove ord t.monomial m) A
 unfolding AllAtOrBelow
 each_at ord m [] h = All-nil _
 each_at ord m (t ∷ A) h = All-cons (λ (u : Term). AtOrAbove ord u.monomial m) t A h.0 (each_at ord m A h.1)
-
-at_each : (ord : Order) (m : List ℕ) (A : List Term) → All (λ (t : Term). AtOrAbove ord t.monomial m) A → AllAtOrBelow ord m A
-unfolding AllAtOrBelow
-at_each ord m [] h = tt
-at_each ord m (t ∷ A) h = (All-head (λ (u : Term). AtOrAbove ord u.monomial m) t A h, at_each ord m A (All-tail (λ (u : Term). AtOrAbove ord u.monomial m) t A h))
-
-pub at_or_below_in : (ord : Order) (m x : List ℕ) (A : List Term) → AllAtOrBelow ord m A → has x A ≡ true → AtOrAbove ord x m
-unfolding AllAtOrBelow has
-at_or_below_in ord m x [] h e = absurd (true≢false (sym e))
-at_or_below_in ord m x (t ∷ A) h e = pick (λ k. at_or_below_in ord m x A h.1 k) (or_out (alike t.monomial x) (has x A) e)
-  where
-    pick : (has x A ≡ true → AtOrAbove ord x m) → (alike t.monomial x ≡ true) ⊎ (has x A ≡ true) → AtOrAbove ord x m
-    pick later (inl k) = subst (λ (y : List ℕ). AtOrAbove ord y m) (alike_same t.monomial x k) h.0
-    pick later (inr k) = later k
-
-nothing_there : (x : List ℕ) (A : List Term) → A ≡ [] → has x A ≡ true → ⊥
-unfolding has
-nothing_there x A none h = true≢false (sym h ∙ ap (has x) none)
-
-both_ways : (ord : Order) (a b : List ℕ) → AtOrAbove ord a b → AtOrAbove ord b a → a ≡ b
-both_ways ord a b (inl e) k = e
-both_ways ord a b (inr h) (inl e) = sym e
-both_ways ord a b (inr h) (inr k) = absurd ((order_facts ord).irreflexive a ((order_facts ord).transitive a b a h k))
-
--- there is one top
-pub one_top : (ord : Order) (U : List Term) (a b : Option (List ℕ)) → IsUnreadTop ord U a → IsUnreadTop ord U b → a ≡ b
-unfolding IsUnreadTop
-one_top ord U None None h k = refl
-one_top ord U None (Some y) h k = absurd (nothing_there y U h k.0)
-one_top ord U (Some x) None h k = absurd (nothing_there x U k h.0)
-one_top ord U (Some x) (Some y) h k = ap (λ (m : List ℕ). Some m) (both_ways ord x y (at_or_below_in ord y x U k.1 h.0) (at_or_below_in ord x y U h.1 k.0))
 
 pub top_at_top : (ord : Order) (U : List Term) (a : Option (List ℕ)) → IsUnreadTop ord U a → AllAtTop ord a U
 unfolding IsUnreadTop AllAtTop
@@ -80,15 +37,15 @@ unfolding AllAtTop
 less_at_top ord None U taken rest p some h =
     let l = length_permutation U (taken ++ rest) p in let k = length-append taken rest in let z = ap (λ (L : List Term). length L) h in absurd (omega (arith, l, k, z))
 less_at_top ord (Some x) U taken rest p some h =
-    at_each ord x rest (All-back (λ (t : Term). AtOrAbove ord t.monomial x) taken rest (All-permutation (λ (t : Term). AtOrAbove ord t.monomial x) U (taken ++ rest) p (each_at ord x U h)))
+    all_at_or_below ord x rest (All-back (λ (t : Term). AtOrAbove ord t.monomial x) taken rest (All-permutation (λ (t : Term). AtOrAbove ord t.monomial x) U (taken ++ rest) p (each_at ord x U h)))
 
 -- ---- marks that tell something new
 falls_from : (ord : Order) (U : List Term) (old top : Option (List ℕ)) → AllAtTop ord old U → IsUnreadTop ord U top → (old ≡ top → ⊥) → TopFalls ord old top
 unfolding IsUnreadTop AllAtTop TopFalls
 falls_from ord U None None h k n = n refl
-falls_from ord U None (Some x) h k n = nothing_there x U h k.0
+falls_from ord U None (Some x) h k n = has_nothing x U h k.0
 falls_from ord U (Some a) None h k n = tt
-falls_from ord U (Some a) (Some x) h k n = pick (at_or_below_in ord a x U h k.0)
+falls_from ord U (Some a) (Some x) h k n = pick (within_at ord a x U h k.0)
   where
     pick : AtOrAbove ord x a → Below ord x a
     pick (inl e) = absurd (n (ap (λ (m : List ℕ). Some m) (sym e)))
@@ -168,7 +125,7 @@ hand_pays s front x taken unread c p none h at some past =
 pub send_pays : (s : WorkerState) (front : Option PlainFront) (t : Term) → HasPaid s front → s.kept ≡ t ∷ [] → HasPaid (record s { kept = []; sent = s.sent ++ TermNote t ∷ [] }) front
 unfolding worker_rows
 send_pays s front t p one =
-    let mark = mark_at_term s.sent t in record {
+    let mark = latest_term s.sent t in record {
       handed = p.handed;
       split = p.split;
       past = p.past;
@@ -183,7 +140,7 @@ pub mark_pays : (s : WorkerState) (front : Option PlainFront) (top : Option (Lis
     → HasPaid (record s { sent = s.sent ++ MarkNote (length s.known) top ∷ [] }) front
 unfolding worker_rows
 mark_pays s front top p t r =
-    let mark = mark_at_mark s.sent (length s.known) top in record {
+    let mark = latest_new s.sent (length s.known) top in record {
       handed = p.handed;
       split = p.split;
       past = p.past;

@@ -10,8 +10,9 @@ use Rattle.divide_merge.specs.Names.{RowIdentity, first_division}
 use Rattle.divide_merge.specs.Verdicts.{Verdict, Finishes, HasNone, PassesNorm, PassesCount, IsBlocked, RowIsFull, OutIsFull, IsVerdict, IsFinal, kept_of}
 use Rattle.divide_merge.specs.Merges.{DivideView, IsSound, free_places}
 use Rattle.divide_merge.specs.Reached.{DivideReach, divide_reached, RowGrows, Follows}
-use Rattle.divide_merge.proofs.Following.{RowGrows-refl, RowGrows-trans}
+use Rattle.divide_merge.proofs.Following.{RowGrows-refl, RowGrows-trans, prefix_nil}
 use Rattle.divide_merge.proofs.OneAnswer.{one_verdict}
+use Rattle.divide_merge.proofs.Turning.{final_kept}
 use Rattle.divide_workers.specs.Fronts.{PlainFront, front_mono}
 use Rattle.divide_workers.specs.Views.{WorkerView}
 use Rattle.divide_workers.specs.Rounds.{AllMove, AreMembers, IsTeam, IsUpToDate, HasPlace, Settles, IsRound}
@@ -19,33 +20,16 @@ use Rattle.divide_workers.proofs.Falling.{IsFrontVector}
 use Rattle.divide_workers.proofs.Hearing.{its_division}
 use Rattle.divide_workers.proofs.Rounding.{RoundTaken, farther}
 use Rattle.divide_workers.proofs.Teams.{members_move, members_meet, meeting_tells, up_to_date}
+use Rattle.divide_workers.proofs.Bounding.{a_worker}
 
 front_vector : (n : ℕ) (front : Option PlainFront) → IfSome (front_mono front) (λ m. length m ≡ n) → IsFrontVector n front
 unfolding IsFrontVector
 front_vector n None h = tt
 front_vector n (Some f) h = h
 
-a_worker : (team : List WorkerView) → 0 < length team → WorkerView
-a_worker [] l = absurd (omega (arith, l))
-a_worker (v ∷ team) l = v
-
-nothing_before : (a b : List RowNote) → IsPrefix a b → b ≡ [] → a ≡ []
-nothing_before [] b p e = refl
-nothing_before (x ∷ a) b p e = absurd (let l : length (x ∷ (a ++ p.0)) ≡ 0 = ap length (p.1 ∙ e) in omega (arith, l))
-
 follows_row : (a b : DivideReach) → Follows a b → RowGrows a.run b.run
 follows_row a b (inl e) = subst (λ (r : DivideRun). RowGrows a.run r) (ap (λ (r : DivideReach). r.run) (sym e)) (RowGrows-refl a.run)
 follows_row a b (inr h) = h.2
-
-kept_final : (x : Verdict) → IsFinal x → kept_of x ≡ Some x
-unfolding IsFinal kept_of
-kept_final Finishes f = refl
-kept_final (HasNone y) f = refl
-kept_final (PassesNorm t) f = refl
-kept_final (PassesCount t) f = refl
-kept_final (IsBlocked w) f = absurd f
-kept_final RowIsFull f = absurd f
-kept_final OutIsFull f = absurd f
 
 -- the workers of team0 made their calls around the merge a, which left them as team1 and it as c; b is c with room for a term, and f what settling left of it
 pub record IsTaken (lim : ℕ) (a c b f : DivideView) (team0 team1 team3 : List WorkerView) (x : Verdict) : Type 0 where
@@ -117,7 +101,7 @@ module _ (lim : ℕ) (a c b f : DivideView) (team0 team1 team3 : List WorkerView
       pick (Some y) e =
           let h : IfSome (Some y) (λ z. IsFinal z × IsVerdict f.run.state (free_places f) f.spare z) = subst (λ (o : Option Verdict). IfSome o (λ z. IsFinal z × IsVerdict f.run.state (free_places f) f.spare z)) e t.ended.cause in
           let same : y ≡ x = one_verdict f.run.state (free_places f) f.spare f.spare y x t.ended.fit.accepted h.1 cause in
-          e ∙ ap (λ (z : Verdict). Some z) same ∙ sym (kept_final x (subst IsFinal same h.0))
+          e ∙ ap (λ (z : Verdict). Some z) same ∙ sym (final_kept x (subst IsFinal same h.0))
 
   -- ---- how far it has come
   some : 0 < length team0
@@ -165,7 +149,7 @@ module _ (lim : ℕ) (a c b f : DivideView) (team0 team1 team3 : List WorkerView
         row_start = ap (λ (r : RowIdentity). r.name.start) (t.team.members.each k y l0).row_is ∙ t.began.row_start;
         division = division;
         mine = sym moves.works.division ∙ ap (λ (v : WorkerView). v.state.division) (sym first.same) ∙ its.0;
-        still = λ none. (nothing_before a.run.notes f.run.notes grows.notes none, grows.front none);
+        still = λ none. (prefix_nil a.run.notes f.run.notes grows.notes none, grows.front none);
       }
 
   pub round_team : IsTeam f team3

@@ -58,11 +58,8 @@ module _ (R M E : RattleType) (c : CoeffRing.Ghosts R.Denot E.Denot) (m : Monomi
   reader_send : IsSend (RowReader.the_field R M E c m o e p).row
   reader_send = search (sendable, seat.the_send, snapshot_send) depth 24
 
-  heap : IsSend M → IsSend (ChainedHeap.the_row M m o e p)
-  heap s = heap_send R M E c m o e p s
-
   rows_send : (α : NamedLft) → IsSend R → IsSend M → IsSend E → IsSync R → IsSync M → IsSync E → IsSend (QuotientRows.the_row α R M E c m o e p)
-  rows_send α r s t x y z = search (sendable, crosses, poly_sync, heap, term_send) depth 24
+  rows_send α r s t x y z = search (sendable, crosses, poly_sync, heap_send, term_send) depth 24
 
   sender_send : (α : NamedLft) → IsSend R → IsSend M → IsSend E → IsSync R → IsSync M → IsSync E → IsSend (Sender.the_row α R M E c m o e p)
   sender_send α r s t x y z = search (sendable, crosses, writer_send, reader_send, rows_send, front_send) depth 24

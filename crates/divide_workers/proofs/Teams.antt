@@ -18,7 +18,7 @@ use Rattle.divide_workers.specs.Working.{HasRoom}
 use Rattle.divide_workers.specs.Steps.{Works, CatchesUp}
 use Rattle.divide_workers.specs.Rounds.{Moves, Meets, AllMove, AllMeet, IsMember, AreMembers, IsTold, IsUpToDate}
 use Rattle.divide_workers.proofs.Ahead.{lowered_again}
-use Rattle.divide_workers.proofs.Working.{more_terms}
+use Rattle.divide_workers.proofs.Working.{more_terms, learned_count}
 use Rattle.divide_workers.proofs.Bounding.{known_few}
 
 -- ---- members
@@ -110,10 +110,7 @@ module _ (a e f : DivideView) (v0 v1 v2 v3 : WorkerView) (p : Passes a e f v0 v1
   learned r =
       let step = p.moves.works.learned (rows0 r) in let old = p.current.learned (rows0 r) in
       let more = more_terms v0.notes v1.notes p.moves.works.notes in
-      count (length v3.state.known) (length v1.state.known) (length v0.state.known) (length (row_terms v3.notes)) (length (row_terms v1.notes)) (length (row_terms v0.notes)) v1.row.name.start f.run.state.start a.run.state.start known3 terms3 step old more start1 (sym p.start)
-    where
-      count : (k3 k1 k0 t3 t1 t0 s r b : ℕ) → k3 ≡ k1 → t3 ≡ t1 → k1 ≡ max k0 (s + t1) → k0 ≡ b + t0 → t0 ≤ t1 → s ≡ r → b ≡ r → k3 ≡ r + t3
-      count k3 k1 k0 t3 t1 t0 s r b e f g h l m n = omega (arith, e, f, g, h, l, m, n)
+      learned_count (length v3.state.known) (length v1.state.known) (length v0.state.known) (length (row_terms v3.notes)) (length (row_terms v1.notes)) (length (row_terms v0.notes)) v1.row.name.start f.run.state.start a.run.state.start known3 terms3 step old more start1 (sym p.start)
 
   few : length v3.state.known ≤ f.run.state.start + length (row_terms v3.notes)
   few = pick (worker_rows v0.state) refl

@@ -1,7 +1,8 @@
 -- The steps of a dividing worker, one after another.
-use Rattle.std.proofs.Common.{◌≡◌, ℕ, ◌+◌, ◌≤◌, max, List, [], ◌++◌, length, refl, sym, ap, ◌∙◌, subst, arith, append_assoc, append-nil, length-append}
+use Rattle.std.proofs.Common.{◌≡◌, ℕ, ◌+◌, ◌≤◌, max, List, [], ◌++◌, length, refl, sym, ap, ◌∙◌, subst, arith, append_assoc, append-nil, length-append, ◌<◌, ◌^◌}
 use mathlib.Core.List.{IsPrefix}
 use Rattle.sdmp_laws.specs.Poly.{Term}
+use Rattle.sdmp_laws.specs.Limits.{quotient_terms_limit}
 use Rattle.divide_wholes.specs.Row.{RowNote, row_terms}
 use Rattle.divide_wholes.specs.Workers.{worker_rows}
 use Rattle.divide_wholes.proofs.RowLemmas.{row_terms-append}
@@ -11,9 +12,7 @@ use Rattle.divide_workers.specs.Views.{WorkerView}
 use Rattle.divide_workers.specs.Working.{IsWorking}
 use Rattle.divide_workers.specs.Steps.{Works}
 use Rattle.divide_workers.proofs.Falling.{falls_itself, falls_again}
-
-prefix_again : {A : Type 0} (xs ys zs : List A) → IsPrefix xs ys → IsPrefix ys zs → IsPrefix xs zs
-prefix_again xs ys zs p q = (p.0 ++ q.0, sym (append_assoc xs p.0 q.0) ∙ (ap (λ l. l ++ q.0) p.1 ∙ q.1))
+use Rattle.term_ring.proofs.Lists.{prefix_trans}
 
 pub more_terms : (a b : List RowNote) → IsPrefix a b → length (row_terms a) ≤ length (row_terms b)
 more_terms a b p =
@@ -46,18 +45,18 @@ works_again a b c f g = record {
   sends = record {
     ring = g.sends.ring ∙ f.sends.ring;
     worker = g.sends.worker ∙ f.sends.worker;
-    sent = prefix_again a.state.sent b.state.sent c.state.sent f.sends.sent g.sends.sent;
+    sent = prefix_trans a.state.sent b.state.sent c.state.sent f.sends.sent g.sends.sent;
     head = let x = f.sends.head in let y = g.sends.head in omega (arith, x, y);
   };
   looks = let x = f.looks in let y = g.looks in omega (arith, x, y);
-  known = prefix_again a.state.known b.state.known c.state.known f.known g.known;
+  known = prefix_trans a.state.known b.state.known c.state.known f.known g.known;
   learned = λ r.
       let m = more_terms b.notes c.notes g.notes in
       let s : c.row.name.start ≡ b.row.name.start = ap (λ i. i.name.start) g.row in
       both (length a.state.known) (length b.state.known) (length c.state.known) (length (row_terms b.notes)) (length (row_terms c.notes)) b.row.name.start c.row.name.start s m (f.learned r) (g.learned (same_rows r));
   idle = λ n. g.idle (λ r. n (λ e. r (sym rows_alike ∙ e))) ∙ f.idle n;
   row = g.row ∙ f.row;
-  notes = prefix_again a.notes b.notes c.notes f.notes g.notes;
+  notes = prefix_trans a.notes b.notes c.notes f.notes g.notes;
   count = let x = f.count in let y = g.count in omega (arith, x, y);
   loads = let x = f.loads in let y = g.loads in omega (arith, x, y);
   told = g.told ∙ f.told;
@@ -73,3 +72,11 @@ works_again a b c f g = record {
 
     same_rows : HasRows a.state → HasRows b.state
     same_rows r e = r (rows_alike ∙ e)
+
+-- ---- numbers
+pub known_below : (n : ℕ) → (quotient_terms_limit ≤ n → ⊥) → n < 2 ^ 30
+known_below n h = omega (arith, h)
+
+-- what is known of a row after a call and a meeting, by the counts of its terms and its start
+pub learned_count : (k2 k1 k0 t2 t1 t0 s r b : ℕ) → k2 ≡ k1 → t2 ≡ t1 → k1 ≡ max k0 (s + t1) → k0 ≡ b + t0 → t0 ≤ t1 → s ≡ r → b ≡ r → k2 ≡ r + t2
+learned_count k2 k1 k0 t2 t1 t0 s r b e f g h l m n = omega (arith, e, f, g, h, l, m, n)
