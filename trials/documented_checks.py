@@ -76,8 +76,8 @@ def consoles(part, _, runner):
         return
     groups = []
     for number, line in enumerate(part.lines, part.line + 1):
-        if line.startswith('$ '):
-            groups.append((number, line[2:], []))
+        if line.startswith('$ ') or not groups:
+            groups.append((number, line.removeprefix('$ '), []))
         else:
             groups[-1][2].append(line)
     for (number, command, shown), (_, following, status) in zip(groups, groups[1:] + [(0, '', [])]):
@@ -130,9 +130,13 @@ def ask_status(runner, command):
 
 def sessions(part, later, runner):
     if isinstance(part, pages.Block) and part.word == 'session':
-        answers = next(p for p in later if isinstance(p, pages.Block))
-        compare('the word of the next block', 'answers', answers.word)
-        yield Asked(part.line, 'sessions', part.lines[-1], answered, runner, lines_text(part.lines), lines_text(answers.lines))
+        following = next((p for p in later if isinstance(p, pages.Block)), pages.Block(0, 'missing', []))
+        yield Asked(part.line, 'sessions', part.lines[-1], ask_session, runner, part.lines, following)
+
+
+def ask_session(runner, session, following):
+    compare('the word of the next block', 'answers', following.word)
+    answered(runner, lines_text(session), lines_text(following.lines))
 
 
 def example_rows(part, _, runner):
