@@ -89,34 +89,44 @@ def beside_flint(path, title, measured, products):
             picture.dot(one, y + rise, COLOURS[program], is_filled=False)
             picture.dot(four, y + rise, COLOURS[program])
         picture.cross(scale(speeds['auto', 1]), y + 5, COLOURS['FLINT'])
-    marks = [('blue', False, 'sdmp by 1 worker'), ('blue', True, 'by 4'), ('red', False, "FLINT's heap method by 1 thread"), ('red', True, 'by 4'), ('red', None, 'its own choice by 1')]
-    x = 24
-    for colour, is_filled, name in marks:
-        if is_filled is None:
-            picture.cross(x, below + 52, colour)
-        else:
-            picture.dot(x, below + 52, colour, is_filled)
-        picture.text(x + 10, below + 56, name, size=12)
-        x += 32 + 6.4 * len(name)
+    speed_marks(picture, below + 52)
     picture.text(410, below + 36, 'million products of terms a second', 'pale', 'middle')
     picture.text(20, below + 86, measured, 'pale', size=12)
     picture.write(path)
 
 
+MARKS = [('blue', False, 'sdmp by 1 worker'), ('blue', True, 'by 4'), ('red', False, "FLINT's heap method by 1 thread"),
+         ('red', True, 'by 4'), ('red', None, 'its own choice by 1')]
+
+
+def speed_marks(picture, y):
+    """What the dots and the cross mean."""
+    x = 24
+    for colour, is_filled, name in MARKS:
+        if is_filled is None:
+            picture.cross(x, y, colour)
+        else:
+            picture.dot(x, y, colour, is_filled)
+        picture.text(x + 10, y + 4, name, size=12)
+        x += 32 + 6.4 * len(name)
+
+
 GROWTH_LINES = ('sdmp by 1', 'whole'), ('sdmp by 4', 'dashed'), ('FLINT by 1', 'whole'), ('FLINT by 4', 'dashed')
+MEASURES = 'seconds', 'MiB at the peak'
 
 
 def growth(path, title, measured, kinds):
     """Two panels for each kind, of a name and, for each program, its points: products of terms, seconds and MiB."""
     picture = svg.Picture(len(kinds) * WIDTH + 20, 2 * HEIGHT + 100, title)
     picture.text(20, 24, title, size=15, weight='bold')
-    for measure, (unit, what) in enumerate((('s', 'seconds'), ('MiB', 'MiB at the peak'))):
-        everything = [point for _, lines in kinds for points in lines.values() for point in points]
+    points = [point for _, lines in kinds for line in lines.values() for point in line]
+    for row, measure in enumerate(MEASURES):
+        top = 30 + row * HEIGHT
+        up = Logarithmic([point[1 + row] for point in points], top + HEIGHT - 40, top + 30)
         for at, (name, lines) in enumerate(kinds):
-            left, top = at * WIDTH, 30 + measure * HEIGHT
-            across = Logarithmic([point[0] for point in everything], left + 60, left + WIDTH - 10)
-            up = Logarithmic([point[1 + measure] for point in everything], top + HEIGHT - 40, top + 30)
-            growth_panel(picture, '%s: %s' % (name, what), across, up, [(line, dash, [(p[0], p[1 + measure]) for p in lines[line]]) for line, dash in GROWTH_LINES if line in lines])
+            across = Logarithmic([point[0] for point in points], at * WIDTH + 60, (at + 1) * WIDTH - 10)
+            chosen = [(line, dash, [(p[0], p[1 + row]) for p in lines[line]]) for line, dash in GROWTH_LINES if line in lines]
+            growth_panel(picture, '%s: %s' % (name, measure), across, up, chosen)
     below = 30 + 2 * HEIGHT
     legend(picture, below + 10, [(name, COLOURS[name.split()[0]], dash) for name, dash in GROWTH_LINES if name in kinds[0][1]])
     picture.text(40, below + 34, 'across: products of terms', 'pale')

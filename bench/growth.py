@@ -17,7 +17,7 @@ memory is that of a run of its own, by peak.c, which needs gcc. A product whose
 answer would take more than MIB (12000) by the program's 32 bytes a term and 20
 of text is left out. Outputs are compared byte for byte.
 
-The tables are those of docs/BENCHMARKS.md, from which pictures.py draws.
+What is printed is a section of docs/BENCHMARKS.md, from which pictures.py draws.
 
 Exit status: 0, or 1 where outputs differ or a run fails.
 """
@@ -37,6 +37,13 @@ WORKERS = 1, 4
 # above so many products of terms one run has to do
 LONG = 3 * 10 ** 7
 BYTES_A_TERM = 52
+HEAD = '''## Time and memory against size
+
+%s
+
+![Seconds and memory of three kinds of products by 1 and 4 workers, beside FLINT](growth.svg)
+
+The least time of a whole run, from the text of the session to the text of the answer, and its peak of memory; FLINT's heap method beside.'''
 
 
 def dense(size):
@@ -120,7 +127,7 @@ def main():
         commands = {'sdmp by %d' % w: [os.path.abspath(words.program), '--workers', str(w)] for w in WORKERS}
         if peer:
             commands.update({'FLINT by %d' % w: [peer, '--heap', '--workers', str(w)] for w in WORKERS})
-        print(program.measured_on())
+        print(HEAD % program.measured_on())
         for kind in KINDS:
             rows = []
             for size in SIZES:

@@ -16,6 +16,7 @@ import program
 PAGE = os.path.join(program.DOCS, 'BENCHMARKS.md')
 WORKERS = 1, 2, 4
 KINDS = 'dense', 'sparse', 'scattered'
+GROWTH = 'Time and memory against size'
 
 
 class Sections:
@@ -42,17 +43,20 @@ class Sections:
 
 def draw_speed_ups(sections):
     heading = 'Products by several workers'
-    capacities = {row['product']: row for row in sections.table(heading, 'one alone s', 'capacity')}
-    flint = {row['product']: row for row in sections.table(heading, 'FLINT heap by 1 s')}
-    panels = {}
+    beside = [('capacity', 'dotted', 'capacity', sections.table(heading, 'one alone s', 'capacity')),
+              ('FLINT heap', 'dashed', 'speed-up', sections.table(heading, 'FLINT heap by 1 s'))]
+    speeds = {}
     for row in sections.table(heading, 'workers', '1024 places s'):
-        panels.setdefault(row['product'], {})[int(row['workers'])] = float(row['speed-up 2'])
-    drawn = []
-    for name, speeds in panels.items():
-        own = [1] + [speeds[workers] for workers in WORKERS[1:]]
-        drawn.append((name, [('sdmp', 'whole', own)] + [(line, dash, [1] + [float(rows[name][column]) for column in (which, which + ' 2')])
-                                                         for line, dash, rows, which in (('capacity', 'dotted', capacities, 'capacity'), ('FLINT heap', 'dashed', flint, 'speed-up'))]))
-    drawing.speed_ups(os.path.join(program.DOCS, 'scaling.svg'), 'Speed-up of a product over one worker, by the number of workers', sections.measured[heading], WORKERS, drawn)
+        speeds.setdefault(row['product'], [1]).append(float(row['speed-up 2']))
+    panels = []
+    for name, own in speeds.items():
+        lines = [('sdmp', 'whole', own)]
+        for line, dash, column, rows in beside:
+            row = next(row for row in rows if row['product'] == name)
+            lines.append((line, dash, [1, float(row[column]), float(row[column + ' 2'])]))
+        panels.append((name, lines))
+    title = 'Speed-up of a product over one worker, by the number of workers'
+    drawing.speed_ups(os.path.join(program.DOCS, 'scaling.svg'), title, sections.measured[heading], WORKERS, panels)
 
 
 def draw_beside_flint(sections):
@@ -78,9 +82,6 @@ def draw_growth(sections):
                     lines.setdefault(name, []).append((float(row['products of terms']), float(row[column]), float(row[name + ' MiB'])))
         kinds.append((kind, lines))
     drawing.growth(os.path.join(program.DOCS, 'growth.svg'), 'Time and memory of a product against its size', sections.measured[GROWTH], kinds)
-
-
-GROWTH = 'Time and memory against size'
 
 
 def main():

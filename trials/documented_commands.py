@@ -46,7 +46,7 @@ import subprocess
 import sys
 import tempfile
 
-from documented_checks import CHECKS, Asked, Differs, NotRun
+from documented_checks import CHECKS, Differs, NotRun
 from shared import HERE, pages, program
 
 TOP = os.path.dirname(HERE)
