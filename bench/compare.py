@@ -64,6 +64,7 @@ def main():
         head = ['workload', 'Mproducts', 'whole s', 'answer s', 'MiB', 'Mp/s']
         for name in ('heap', 'auto') if peer else ():
             head += ['FLINT %s whole' % name, 'answer', 'ratio whole', 'ratio answer']
+        print(program.measured_on() + '\n')
         print('| ' + ' | '.join(head) + ' |')
         print('|' + '---|' * len(head))
         ratios, faults = [], []

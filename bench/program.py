@@ -4,6 +4,7 @@ import subprocess
 
 HERE = os.path.dirname(os.path.abspath(__file__))
 CRATES = os.path.join(HERE, '..', 'crates')
+DOCS = os.path.join(HERE, '..', 'docs')
 SDMP = os.path.join(CRATES, 'sdmp_cli', 'out', 'sdmp_cli')
 
 
@@ -25,3 +26,13 @@ def flint_peer(folder):
         print('FLINT is skipped: its peer was not built (is libflint-dev there?)')
         return None
     return peer
+
+
+def measured_on():
+    """A line that says which commit and machine the figures of a run are of."""
+    described = subprocess.run(['git', 'describe', '--always', '--dirty', '--exclude', '*'], cwd=HERE, stdout=subprocess.PIPE, text=True)
+    commit = described.stdout.strip() or 'none'
+    with open('/proc/cpuinfo') as file:
+        models = [line.partition(':')[2].strip() for line in file if line.startswith('model name')]
+    memory = os.sysconf('SC_PAGE_SIZE') * os.sysconf('SC_PHYS_PAGES') / 2 ** 30
+    return 'Measured at commit `%s` on %d processors (%s) with %.0f GiB of memory.' % (commit, os.cpu_count(), models[0] if models else os.uname().machine, memory)

@@ -2,7 +2,7 @@
 """Measures products and divisions by several workers, beside FLINT's heap method and beside other programs.
 
     scaling.py [--program [NAME=]PATH].. [--runs N] [--only PART,..]
-               [--size small|medium|large] [--load N] [--limit S] [--plot]
+               [--size small|medium|large] [--load N] [--limit S]
 
 The capacity of the machine for W workers is what W copies of a session by one
 worker do side by side, over what one copy does alone: W times the time of one,
@@ -22,7 +22,8 @@ the W copies side by side, over W times the time of the one session.
 Where PATH is given several times, as an older and a newer program, all take
 turns in one run. The least time of N runs (5) counts, less that of the same
 session without its commands, and all outputs of a session are compared byte for
-byte. In the last two parts a run is killed after S seconds (60). With --plot the speed-ups of this run are drawn into docs/scaling.svg.
+byte. In the last two parts a run is killed after S seconds (60).
+The tables are those of docs/BENCHMARKS.md, from which pictures.py draws.
 
 Exit status: 0, or 1 where outputs differ or a run fails.
 """
@@ -33,7 +34,6 @@ import signal
 import sys
 import tempfile
 
-import drawing
 import program
 from loops import BusyLoops
 from turns import Least, measure
@@ -42,7 +42,6 @@ from workloads import DIVISIONS, FOUR_PRODUCTS, write_folder
 WORKERS = 2, 4
 PLACES = 64, 1024, 65536
 LOADED_PLACES = 2, 64, 1024
-OWN_PLACES = 1024
 LOADED = {
     'small': ['dense08', 'scattered00200'],
     'medium': ['dense12', 'scattered01000'],
@@ -144,9 +143,9 @@ def capacity_rows(bench, row, least):
         yield line
 
 
-def measure_scaling(bench, sessions, what, plot):
-    """Measures these sessions, which are products or divisions, and draws them where there is a file to plot into."""
-    capacities, by_workers, by_flint, panels = [], [], [], []
+def measure_scaling(bench, sessions, what):
+    """Measures these sessions, which are products or divisions."""
+    capacities, by_workers, by_flint = [], [], []
     for row in sessions:
         least = plans(bench)
         bench.turns(row, least)
@@ -154,7 +153,6 @@ def measure_scaling(bench, sessions, what, plot):
         by_workers += worker_rows(bench, row, least)
         if bench.peer:
             by_flint.append(flint_row(row, least))
-        panels.append((row['name'], speed_ups(bench, least)))
     heads = [what, 'program', 'Mproducts', 'one alone s'], [what, 'program', 'workers'], [what, 'FLINT heap by 1 s']
     for workers in WORKERS:
         heads[0].extend(['%d side by side s' % workers, 'capacity'])
@@ -164,20 +162,6 @@ def measure_scaling(bench, sessions, what, plot):
     for head, rows in zip(heads, (capacities, by_workers, by_flint)):
         if rows:
             table(head, rows)
-    if plot:
-        drawing.draw(plot, (1,) + WORKERS, panels)
-
-
-def speed_ups(bench, least):
-    """The lines of one session's panel: a name, a style, and the speed-up by 1 worker and by several."""
-    for name in bench.programs:
-        alone = least[name, 1].answer()
-        yield name, 'whole', [1] + [alone / least[name, workers, OWN_PLACES].answer() for workers in WORKERS]
-    name = list(bench.programs)[-1]
-    yield 'capacity', 'dotted', [1] + [capacity(least, name, workers) for workers in WORKERS]
-    if bench.peer:
-        alone = least['FLINT', 1].answer()
-        yield 'FLINT heap', 'dashed', [1] + [alone / least['FLINT', workers].answer() for workers in WORKERS]
 
 
 def measure_peers(bench):
@@ -256,17 +240,17 @@ def main():
     parser.add_argument('--size', choices=list(FOUR_PRODUCTS), default='medium')
     parser.add_argument('--load', type=int, default=0)
     parser.add_argument('--limit', type=float, default=60)
-    parser.add_argument('--plot', action='store_true')
     words = parser.parse_args()
     parts = words.only.split(',')
     # ended from outside, it ends the busy loops too
     signal.signal(signal.SIGTERM, lambda *_: sys.exit(1))
+    print(program.measured_on())
     with tempfile.TemporaryDirectory() as folder:
         bench = Bench(folder, words.size, named(words.program), words.runs, words.limit)
         if 'products' in parts:
-            measure_scaling(bench, bench.four, 'product', os.path.join(program.HERE, '..', 'docs', 'scaling.svg') if words.plot else None)
+            measure_scaling(bench, bench.four, 'product')
         if 'divisions' in parts:
-            measure_scaling(bench, bench.divisions, 'division', None)
+            measure_scaling(bench, bench.divisions, 'division')
         if 'peers' in parts:
             measure_peers(bench)
         if 'tiny' in parts:

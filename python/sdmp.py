@@ -34,11 +34,14 @@ STATUSES = {
     4: 'writing failed',
     5: 'no memory',
     6: 'a session of more than 67,108,864 bytes',
+    70: 'the program was not built',
 }
 # each command, with the numbers of its operands and of the lines that answer it
 COMMANDS = {'show': (1, 1), 'mul': (2, 1), 'div': (2, 1), 'rem': (2, 2)}
 FAULT = re.compile(r'line (\d+): (.*?)(?: at (\d+))?')
 TERM = re.compile(r'[+-]?[^+-]+')
+# how much of a faulty line is shown on each side of its fault
+SHOWN = 30
 
 
 class SdmpError(Exception):
@@ -64,7 +67,13 @@ class Fault(SdmpError):
 
     def __str__(self):
         place = 'line %d' % self.line if self.column is None else 'line %d, column %d' % (self.line, self.column)
-        return '%s: %s' % (place, self.text)
+        return '%s: %s, in %r' % (place, self.text, self._around())
+
+    def _around(self):
+        """The faulty line, or what stands around the fault."""
+        at = (self.column or 1) - 1
+        before, after = self.source[max(at - SHOWN, 0):at], self.source[at:at + SHOWN]
+        return '..' * (at > SHOWN) + before + after + '..' * (at + SHOWN < len(self.source))
 
 
 class Failure(SdmpError):

@@ -135,7 +135,9 @@ class Faults(unittest.TestCase):
             fault = self.fault(lambda text=text: session.mul('x', text))
             self.assertEqual((fault.text, fault.line), (name, 4))
             self.assertEqual(fault.source[fault.column - 1:], rest)
-        self.assertEqual(str(fault), 'line 4, column 8: degree bound')
+        self.assertEqual(str(fault), "line 4, column 8: degree bound, in 'p2 = 1+x^3000000000'")
+        fault = self.fault(lambda: session.poly('+x' * 50 + '*2' + '+x' * 50))
+        self.assertEqual(str(fault), "line 3, column 107: syntax, in '..%s*2%s..'" % ('x+' * 14 + 'x', '+x' * 14 + '+'))
 
     def test_faults_of_commands_have_none(self):
         session = sdmp.Session('x')
@@ -152,7 +154,7 @@ class Faults(unittest.TestCase):
         self.assertEqual(str(fault.answers), "[(Polynomial('1'), Polynomial('0')), Polynomial('x')]")
         self.assertEqual(fault.source, 'div p1 p2')
         copy = pickle.loads(pickle.dumps(fault))
-        self.assertEqual((str(copy), copy.answers), ('line 7: division by zero', fault.answers))
+        self.assertEqual((str(copy), copy.answers), ("line 7: division by zero, in 'div p1 p2'", fault.answers))
 
     def test_faults_of_the_header(self):
         for call, name, line in ((lambda: sdmp.Session('x 1y'), 'bad name', 1),
