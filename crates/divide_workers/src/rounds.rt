@@ -153,7 +153,7 @@ fn change_row<R: CoeffRing, M: Monomial>(
     Ok(row)
 }
 
-/// Rounds until the merge is over, each of which begins with room for at least `room` terms.
+/// Rounds until the merge is over, each of which begins with room for at least `room` terms, and for at least as many as the quotient has by then, since the remainder's room bounds a round too.
 pub(crate) fn finish<T: Threads + Sync, R: CoeffRing, M: Monomial, G: Gate>(
     threads: &T,
     alloc: Global,
@@ -187,7 +187,7 @@ pub(crate) fn finish<T: Threads + Sync, R: CoeffRing, M: Monomial, G: Gate>(
     loop {
         merge.whole();
         all_whole(workers);
-        merge.reserve(room)?;
+        merge.reserve(room.max(merge.quotient().len()))?;
         let (next, last) = round(threads, alloc, merge, rings, &row, workers, gate)?;
         merge = next;
         merge.whole();

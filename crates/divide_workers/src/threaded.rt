@@ -25,15 +25,16 @@ use turnstile::Gate;
 // an operand has fewer terms
 const TERMS: usize = 1 << 30;
 
-// the first round has room for no more terms
+// the first round has room for no fewer terms, and for no more
+const LEAST_ROOM: usize = 1 << 11;
 const MOST_ROOM: usize = 1 << 20;
 
-// The first round has room for 64 times the terms of both operands, or for the most: memory that isn't written isn't taken, and each want of room ends the advances of all workers.
+// The first round has room for 64 times the terms of both operands, within these bounds: memory that isn't written isn't taken, and each want of room ends the advances of all workers.
 fn first_room(dividend: usize, divisor: usize) -> usize
     requires { 1 + dividend + divisor < 2 ^ 58 }
     ensures { 0 < result × result ≤ 2 ^ 20 }
 {
-    (64 * (1 + dividend + divisor)).min(MOST_ROOM)
+    (64 * (1 + dividend + divisor)).clamp(LEAST_ROOM, MOST_ROOM)
 }
 
 // whether a unit is asked for and the leading coefficient of the divisor is none
