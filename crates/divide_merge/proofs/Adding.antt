@@ -8,7 +8,6 @@ use Rattle.sdmp_laws.specs.Division.{Division, IsAccepted, InScope}
 use Rattle.sdmp_laws.specs.Limits.{Passes, PassesBound, greatest_norm, quotient_terms_limit}
 use Rattle.sdmp_laws.specs.declared.Mode.{Mode}
 use Rattle.sdmp_laws.specs.declared.Mode.TheVariants.{Remainder}
-use Rattle.sdmp_laws.proofs.Parts.{norm_nil, norm_cons, norm_append}
 use Rattle.sdmp_laws.proofs.DivisionLemmas.{lead_nonzero}
 use Rattle.sdmp_laws.proofs.Merging.{one_norm}
 use Rattle.divide_wholes.specs.Wholes.{DivideState}

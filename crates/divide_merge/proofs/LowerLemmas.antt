@@ -1,14 +1,11 @@
 -- The least and the greatest multiple of a monomial of one degree.
-use Rattle.std.proofs.Common.{◌≡◌, ◌⊎◌, inl, inr, ℕ, zero, suc, ◌+◌, ◌-◌, ◌<◌, ◌≤◌, true≢false, List, [], ◌∷◌, length, set, take, Option, Some, None, IfSome, refl, sym, ap, ◌∙◌, subst, arith, length-set}
+use Rattle.std.proofs.Common.{◌≡◌, ◌⊎◌, inl, inr, ℕ, zero, suc, ◌+◌, ◌-◌, ◌<◌, ◌≤◌, List, [], ◌∷◌, length, set, take, Option, Some, None, IfSome, refl, sym, ap, ◌∙◌, subst, arith, length-set}
 use Rattle.std.proofs.Math.Seq.{take-set-lt}
 use Rattle.std.specs.Option.{unwrap_or}
-use Rattle.std.specs.Ordering.{is_lt}
-use Rattle.std.specs.declared.cmp.Ordering.TheVariants.{Less}
 use Rattle.sdmp_laws.specs.Order.{Order, ◌⋅◌, degree, Divides, over, LexBelow, RevBelow, TieBelow, Below, zeros, compare}
 use Rattle.sdmp_laws.specs.declared.Order.TheVariants as order
 use Rattle.sdmp_laws.specs.Division.{AtOrAbove}
-use Rattle.sdmp_laws.proofs.CompareLemmas.{compare_same, compare_greater}
-use Rattle.sdmp_laws.proofs.OrderLemmas.{Three, is_less, is_equal, is_greater, below_total, order_facts, times_comm, degree_times, degree_zeros, zeros_from_degree}
+use Rattle.sdmp_laws.proofs.OrderLemmas.{order_facts, times_comm, degree_times, degree_zeros, zeros_from_degree}
 use Rattle.sdmp_laws.proofs.LongLemmas.{over_times, length_over, below_degree}
 use Rattle.sdmp_laws.proofs.NextTerm.{times_at}
 use Rattle.divide_merge.specs.Lower.{power, IsLeastAbove}

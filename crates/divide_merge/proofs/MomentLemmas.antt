@@ -1,14 +1,12 @@
 -- What the workers owe is what their rings hold and what they haven't sent, so all parts of a division add up.
-use Rattle.std.proofs.Common.{◌≡◌, ℕ, zero, suc, ◌<◌, ℤ, List, ◌++◌, ◌+ℤ◌, neg_ℤ, sym, ap, ◌∙◌, subst, arith}
+use Rattle.std.proofs.Common.{◌≡◌, ℕ, ◌<◌, ℤ, List, ◌++◌, ◌+ℤ◌, neg_ℤ, sym, ap, ◌∙◌, arith}
 use Rattle.std.proofs.lemmas.List.{map-append}
 use Rattle.std.proofs.lemmas.Int.{ints}
 use Rattle.sdmp_laws.specs.Ring.{red}
-use Rattle.sdmp_laws.specs.Poly.{Term, total, Same, minus, sum_over}
+use Rattle.sdmp_laws.specs.Poly.{total, Same, minus, sum_over}
 use Rattle.sdmp_laws.proofs.PolyLemmas.{total_append, total_minus, from_total, Same-trans}
-use Rattle.sdmp_laws.proofs.TermsLemmas.{total_nil}
-use Rattle.whole_laws.specs.Notes.{Note, Script, terms_in, Carry, owed}
+use Rattle.whole_laws.specs.Notes.{Note, Script, terms_in, owed}
 use Rattle.whole_laws.specs.Wholes.{head_terms, notes_of as notes_at}
-use Rattle.whole_laws.proofs.OwedLemmas.{owed_split}
 use Rattle.divide_wholes.specs.Wholes.{DivideState, DivideWhole, divide_script, all_owed}
 use Rattle.term_ring.specs.declared.note.NoteOf.{NoteOf}
 use Rattle.term_ring.specs.Spelling.{note_of, notes_of}

@@ -1,12 +1,11 @@
 -- What is read next: the greatest monomial, and where it stands.
 use Rattle.std.proofs.Common.{◌≡◌, ◌⊎◌, inl, inr, ℕ, zero, suc, ◌<◌, ◌≤◌, ℤ, true, false, Bool, true≢false, List, [], ◌∷◌, ◌++◌, length, get_or, drop, None, refl, sym, ap, ◌∙◌, subst, arith}
 use Rattle.std.specs.declared.cmp.Ordering.TheVariants.{Less}
-use Rattle.std.specs.Ordering.{is_lt}
 use Rattle.sdmp_laws.specs.Order.{Order, Below, alike, compare}
 use Rattle.sdmp_laws.specs.Poly.{Term, AllBelow, Decreasing}
 use Rattle.sdmp_laws.specs.Division.{AllAtOrBelow, AtOrAbove}
 use Rattle.sdmp_laws.proofs.OrderLemmas.{Three, is_less, is_equal, is_greater, below_total, alike_self}
-use Rattle.sdmp_laws.proofs.CompareLemmas.{compare_less, compare_greater, compare_same}
+use Rattle.sdmp_laws.proofs.CompareLemmas.{compare_less}
 use Rattle.sdmp_laws.proofs.NextTerm.{below_at, AllAtOrBelow-above}
 use Rattle.sdmp_laws.proofs.Tests.{or_in_left}
 use Rattle.whole_laws.specs.Notes.{has}

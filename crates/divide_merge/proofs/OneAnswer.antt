@@ -5,7 +5,6 @@ use Rattle.sdmp_laws.specs.Ring.{red}
 use Rattle.sdmp_laws.specs.Poly.{Term, total, coef, lm, minus}
 use Rattle.sdmp_laws.specs.Division.{IsAccepted, Turn, AtOrAbove, AllAtOrBelow}
 use Rattle.sdmp_laws.specs.Limits.{Passes, PassesBound, quotient_terms_limit}
-use Rattle.sdmp_laws.specs.declared.Mode.{Mode}
 use Rattle.sdmp_laws.specs.declared.Mode.TheVariants.{Exact, Remainder}
 use Rattle.sdmp_laws.proofs.OrderLemmas.{order_facts, alike_self, alike_not}
 use Rattle.sdmp_laws.proofs.Ints.{red_red, red_zero}

@@ -6,11 +6,9 @@ use Rattle.sdmp_laws.specs.Order.{Order, ◌⋅◌, alike, Below}
 use Rattle.sdmp_laws.specs.Ring.{red}
 use Rattle.sdmp_laws.specs.Poly.{Term, total, coef, times, terms, every, norm, lm, Over, AllBelow, IsPoly}
 use Rattle.sdmp_laws.specs.Division.{Division, IsAccepted}
-use Rattle.sdmp_laws.specs.LongDivision.{quotient_list}
 use Rattle.sdmp_laws.specs.Limits.{greatest_norm}
 use Rattle.sdmp_laws.proofs.OrderLemmas.{order_facts, alike_same, times_comm}
-use Rattle.sdmp_laws.proofs.PolyLemmas.{same_total}
-use Rattle.sdmp_laws.proofs.TermsLemmas.{total_other, coef_head, head_facts, tail_poly, terms_same}
+use Rattle.sdmp_laws.proofs.TermsLemmas.{total_other, coef_head, head_facts, tail_poly}
 use Rattle.sdmp_laws.proofs.ListLemmas.{AllBelow-back}
 use Rattle.sdmp_laws.proofs.Parts.{norm_cons, norm_append, norm_times, total-le-norm}
 use Rattle.sdmp_laws.proofs.DivisionLemmas.{length_lm}
@@ -18,7 +16,7 @@ use Rattle.whole_laws.specs.Notes.{Note, QuotientScript, after_lead, divisor_row
 use Rattle.whole_laws.specs.Wholes.{head_terms, IsHead, notes_of, head_of_worker}
 use Rattle.whole_laws.proofs.NotesLemmas.{Carry-prefix}
 use Rattle.divide_wholes.specs.Wholes.{DivideState, DivideWhole, IsCandidate, IsBeyond, divide_script}
-use Rattle.divide_wholes.proofs.Candidate.{rows_below, rows_over, script_poly, times_nothing, later_under, candidate_bound, script_total}
+use Rattle.divide_wholes.proofs.Candidate.{rows_below, rows_over, script_poly, later_under, candidate_bound, script_total}
 use Rattle.divide_wholes.proofs.WorkerLemmas.{worker_final}
 use Rattle.divide_wholes.proofs.TakeLemmas.{first_is_below}
 use Rattle.dividing_rounds.proofs.WorkloadLemmas.{first_lower, script_none}

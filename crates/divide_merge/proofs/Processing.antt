@@ -3,11 +3,10 @@ use Rattle.std.proofs.Common.{◌≡◌, ℕ, zero, suc, ◌+◌, ◌<◌, ◌^�
 use Rattle.std.proofs.lemmas.List.{length-map, map-append}
 use Rattle.std.proofs.lemmas.Option.{MatchOption-from_none}
 use Rattle.std.proofs.lemmas.List.Elements.{All-push}
-use Rattle.sdmp_laws.specs.Order.{Order, ◌⋅◌, alike, Below}
+use Rattle.sdmp_laws.specs.Order.{Order, ◌⋅◌}
 use Rattle.sdmp_laws.specs.Poly.{Term, without, lm, AllBelow, Decreasing, norm}
 use Rattle.sdmp_laws.specs.Canonical.{Polynomial}
 use Rattle.sdmp_laws.specs.Division.{Division, AllAtOrBelow}
-use Rattle.sdmp_laws.proofs.OrderLemmas.{order_facts, alike_not, alike_self}
 use Rattle.sdmp_laws.proofs.LongLemmas.{over_times}
 use Rattle.sdmp_laws.proofs.NextTerm.{at_both}
 use Rattle.whole_laws.specs.Wholes.{head_terms, clear_at}

@@ -5,7 +5,7 @@ use Rattle.std.proofs.lemmas.List.{length_push, length-take-le}
 use mathlib.Core.List.{IsPrefix}
 use Rattle.sdmp_laws.specs.Order.{Order, ◌⋅◌, degree}
 use Rattle.sdmp_laws.specs.Ring.{red}
-use Rattle.sdmp_laws.specs.Poly.{Term, coef, row, term_times, term_neg, negated, minus, AllBelow, AllDegrees, lm}
+use Rattle.sdmp_laws.specs.Poly.{Term, coef, row, term_times, negated, minus, AllBelow, AllDegrees, lm}
 use Rattle.sdmp_laws.specs.Division.{Division, IsAccepted, Turn, Turns}
 use Rattle.sdmp_laws.specs.LongDivision.{quotient_list}
 use Rattle.sdmp_laws.proofs.Ints.{red_zero}

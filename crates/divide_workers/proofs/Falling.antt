@@ -1,6 +1,6 @@
 -- Fronts that fall.
-use Rattle.std.proofs.Common.{◌≡◌, inl, inr, ℕ, Bool, true, false, List, length, Option, Some, None, refl, sym, ap, ◌∙◌, subst}
-use Rattle.sdmp_laws.specs.Order.{Order, ◌⋅◌, Below}
+use Rattle.std.proofs.Common.{◌≡◌, inl, inr, ℕ, Bool, true, false, List, length, Option, Some, None, refl, sym, ◌∙◌}
+use Rattle.sdmp_laws.specs.Order.{Order, ◌⋅◌}
 use Rattle.sdmp_laws.specs.Poly.{Term, lm}
 use Rattle.sdmp_laws.specs.Division.{Division, AtOrAbove}
 use Rattle.sdmp_laws.proofs.OrderLemmas.{order_facts}

@@ -2,13 +2,12 @@
 use Rattle.std.proofs.Common.{◌≡◌, ◌⊎◌, inl, inr, ℕ, ◌+◌, ◌<◌, ◌≤◌, Bool, true, false, true≢false, List, [], ◌∷◌, length, Option, Some, None, sym, ap, ◌∙◌, subst, arith, All}
 use Rattle.std.proofs.lemmas.List.Elements.{All-head, All-tail}
 use Rattle.sdmp_laws.specs.Order.{Order, ◌⋅◌, alike, degree, Below}
-use Rattle.sdmp_laws.specs.Poly.{Term, AllBelow, AllDegrees, Decreasing, lm}
-use Rattle.sdmp_laws.specs.Division.{Division, IsAccepted, AtOrAbove}
+use Rattle.sdmp_laws.specs.Poly.{Term, AllDegrees, Decreasing, lm}
+use Rattle.sdmp_laws.specs.Division.{Division, AtOrAbove}
 use Rattle.sdmp_laws.proofs.OrderLemmas.{order_facts, alike_same, degree_times}
 use Rattle.sdmp_laws.proofs.Tests.{or_out}
-use Rattle.sdmp_laws.proofs.LongLemmas.{below_degree}
 use Rattle.sdmp_laws.proofs.DegreeLemmas.{degrees_poly, degrees_below}
-use Rattle.sdmp_laws.proofs.ListLemmas.{All-front, each_degree, Decreasing-every, AllDegrees-every}
+use Rattle.sdmp_laws.proofs.ListLemmas.{All-front, AllDegrees-every}
 use Rattle.whole_laws.specs.Notes.{has, after_lead, divisor_rows, IsProductMonomial}
 use Rattle.divide_wholes.specs.Workers.{IsUnreadTop, worker_rows}
 use Rattle.divide_wholes.proofs.WorkerLemmas.{rows_decreasing}

@@ -7,7 +7,6 @@ use Rattle.sdmp_laws.specs.Order.{Order, ◌⋅◌, degree}
 use Rattle.sdmp_laws.specs.Poly.{Term, row, lm}
 use Rattle.sdmp_laws.specs.Division.{Division}
 use Rattle.sdmp_laws.specs.LongDivision.{quotient_list}
-use Rattle.sdmp_laws.specs.Limits.{quotient_terms_limit}
 use Rattle.sdmp_laws.proofs.OrderLemmas.{numbers, Three, is_less, is_equal, is_greater}
 use Rattle.sdmp_laws.proofs.ListLemmas.{All-front, All-back}
 use Rattle.whole_laws.specs.Notes.{divisor_rows}

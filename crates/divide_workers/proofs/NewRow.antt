@@ -4,7 +4,7 @@ use mathlib.Core.List.{IsPrefix}
 use Rattle.sdmp_laws.specs.Poly.{Term}
 use Rattle.sdmp_laws.specs.Division.{Division}
 use Rattle.sdmp_laws.specs.LongDivision.{quotient_list}
-use Rattle.sdmp_laws.specs.Limits.{PassesBound, quotient_terms_limit}
+use Rattle.sdmp_laws.specs.Limits.{PassesBound}
 use Rattle.whole_laws.specs.Wholes.{notes_of}
 use Rattle.divide_wholes.specs.Wholes.{AllUnderFront}
 use Rattle.divide_wholes.specs.Row.{RowNote, row_terms}

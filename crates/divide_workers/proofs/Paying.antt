@@ -1,15 +1,14 @@
 -- Each note of a dividing worker is paid for.
-use Rattle.std.proofs.Common.{◌≡◌, ◌≢◌, ◌⊎◌, inl, inr, ℕ, ◌+◌, ◌<◌, ◌≤◌, true, true≢false, ℤ, List, [], ◌∷◌, ◌++◌, length, Option, Some, None, refl, sym, ap, ◌∙◌, subst, arith, All, IsPermutation, length-append, append_assoc, append-nil}
-use Rattle.std.proofs.lemmas.List.Elements.{All-nil, All-cons, All-head, All-tail, All-append, All-weaker}
+use Rattle.std.proofs.Common.{◌≡◌, ◌≢◌, ◌⊎◌, inl, inr, ℕ, ◌+◌, ◌<◌, ◌≤◌, ℤ, List, [], ◌∷◌, ◌++◌, length, Option, Some, None, refl, sym, ap, ◌∙◌, subst, arith, All, IsPermutation, length-append, append_assoc, append-nil}
+use Rattle.std.proofs.lemmas.List.Elements.{All-nil, All-cons, All-append, All-weaker}
 use Rattle.std.proofs.lemmas.List.Sorted.{All-permutation, IsPermutation-refl, IsPermutation-append_left, IsPermutation-append_right, IsPermutation-trans, length_permutation}
-use Rattle.sdmp_laws.specs.Order.{Order, alike, Below}
+use Rattle.sdmp_laws.specs.Order.{Order, Below}
 use Rattle.sdmp_laws.specs.Poly.{Term, times, row}
 use Rattle.sdmp_laws.specs.Division.{Division, AtOrAbove, AllAtOrBelow}
-use Rattle.sdmp_laws.proofs.OrderLemmas.{order_facts, alike_same, numbers, Three, is_less, is_equal, is_greater}
-use Rattle.sdmp_laws.proofs.Tests.{or_out}
+use Rattle.sdmp_laws.proofs.OrderLemmas.{numbers, Three, is_less, is_equal, is_greater}
 use Rattle.sdmp_laws.proofs.PolyLemmas.{times_append_left}
 use Rattle.sdmp_laws.proofs.ListLemmas.{All-back}
-use Rattle.whole_laws.specs.Notes.{Note, TermNote, MarkNote, EndNote, has, TopFalls}
+use Rattle.whole_laws.specs.Notes.{TermNote, MarkNote, TopFalls}
 use Rattle.divide_wholes.specs.Wholes.{mark_after, latest_mark}
 use Rattle.divide_wholes.specs.Workers.{WorkerState, MarkRises, IsUnreadTop, worker_rows, sum_at}
 use Rattle.divide_workers.specs.Fronts.{PlainFront, IsPast}

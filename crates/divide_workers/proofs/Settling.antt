@@ -1,13 +1,11 @@
 -- What a round tells of its merge and of its workers.
-use Rattle.std.proofs.Common.{◌≡◌, inl, inr, ℕ, ◌-◌, ◌<◌, false, true≢false, List, [], ◌∷◌, ◌++◌, length, slice_index_or, Option, Some, None, IfSome, refl, sym, ap, ◌∙◌, subst, arith}
+use Rattle.std.proofs.Common.{◌≡◌, inl, inr, ℕ, ◌-◌, ◌<◌, false, true≢false, List, length, slice_index_or, Option, Some, None, IfSome, refl, sym, ap, ◌∙◌, subst, arith}
 use Rattle.std.specs.Option.{is_some}
-use mathlib.Core.List.{IsPrefix}
-use Rattle.divide_wholes.specs.Row.{RowNote}
 use Rattle.term_ring.specs.Names.{RingName}
 use Rattle.dividing_rounds.specs.Runs.{DivideRun}
 use Rattle.dividing_rounds.specs.Rounds.{progress}
 use Rattle.divide_merge.specs.Names.{RowIdentity, first_division}
-use Rattle.divide_merge.specs.Verdicts.{Verdict, Finishes, HasNone, PassesNorm, PassesCount, IsBlocked, RowIsFull, OutIsFull, IsVerdict, IsFinal, kept_of}
+use Rattle.divide_merge.specs.Verdicts.{Verdict, IsVerdict, IsFinal, kept_of}
 use Rattle.divide_merge.specs.Merges.{DivideView, IsSound, free_places}
 use Rattle.divide_merge.specs.Reached.{DivideReach, divide_reached, RowGrows, Follows}
 use Rattle.divide_merge.proofs.Following.{RowGrows-refl, RowGrows-trans, prefix_nil}

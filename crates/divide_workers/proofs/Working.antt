@@ -1,5 +1,5 @@
 -- The steps of a dividing worker, one after another.
-use Rattle.std.proofs.Common.{◌≡◌, ℕ, ◌+◌, ◌≤◌, max, List, [], ◌++◌, length, refl, sym, ap, ◌∙◌, subst, arith, append_assoc, append-nil, length-append, ◌<◌, ◌^◌}
+use Rattle.std.proofs.Common.{◌≡◌, ℕ, ◌+◌, ◌≤◌, max, List, [], ◌++◌, length, refl, sym, ap, ◌∙◌, subst, arith, append-nil, length-append, ◌<◌, ◌^◌}
 use mathlib.Core.List.{IsPrefix}
 use Rattle.sdmp_laws.specs.Poly.{Term}
 use Rattle.sdmp_laws.specs.Limits.{quotient_terms_limit}
