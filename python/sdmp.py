@@ -29,7 +29,7 @@ __all__ = ['Failure', 'Fault', 'Polynomial', 'SdmpError', 'Session']
 
 HERE = os.path.dirname(os.path.abspath(__file__))
 STATUSES = {
-    1: 'the words of the command line are faulty',
+    1: 'faulty words; workers are 1 to 64, places 2 to 65536',
     3: 'reading failed',
     4: 'writing failed',
     5: 'no memory',

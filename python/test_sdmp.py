@@ -170,7 +170,7 @@ class Faults(unittest.TestCase):
     def test_faulty_words(self):
         with self.assertRaises(sdmp.Failure) as caught:
             sdmp.Session('x', workers=65)
-        self.assertEqual(str(caught.exception), 'status 1: the words of the command line are faulty')
+        self.assertEqual(str(caught.exception), 'status 1: faulty words; workers are 1 to 64, places 2 to 65536')
 
 
 class Programs(unittest.TestCase):

@@ -234,7 +234,7 @@ def ask_ending(runner, command, status, written):
     if status != 1:
         compare('standard error', b'', errors)
     name = re.search(r'(examples/\w+)\.sdmp', command)
-    if written == 'nothing':
+    if written == 'nothing' or not name:
         compare('the output', b'', output)
     elif status in (0, 2):
         compare('the output', file_of(runner, name[1] + '.out'), output)
