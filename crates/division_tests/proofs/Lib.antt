@@ -1,2 +1,3 @@
 mod Degrees
+mod Dividing
 pub mod Squares

@@ -9,9 +9,17 @@ use Rattle.sdmp_laws.specs.declared.Mode.TheVariants.{Exact}
 abbrev pub two_terms : ℤ → ℕ → ℤ → List Term
 two_terms a k b = terms Grlex 0 (record { monomial = k ∷ []; coefficient = a } ∷ record { monomial = 0 ∷ []; coefficient = b } ∷ [])
 
+-- x^k + a by x + b
+abbrev pub by_line : ℕ → ℤ → ℤ → Division
+by_line k a b = record { mode = Exact; ord = Grlex; p = 0; n = 1; f = two_terms (pos 1) k a; g = two_terms (pos 1) 1 b }
+
 -- x^2 + 1 by x + 1
 abbrev pub square_and_one : Division
-square_and_one = record { mode = Exact; ord = Grlex; p = 0; n = 1; f = two_terms (pos 1) 2 (pos 1); g = two_terms (pos 1) 1 (pos 1) }
+square_and_one = by_line 2 (pos 1) (pos 1)
+
+-- x^3 - 1 by x - 1
+abbrev pub cube_less_one : Division
+cube_less_one = by_line 3 (negsuc 0) (negsuc 0)
 
 -- the terms of its quotient before a remainder of 2
 abbrev pub x_term : Term

@@ -21,3 +21,5 @@ mod powers;
 mod stalls;
 #[cfg(test)]
 mod sums;
+#[cfg(test)]
+mod workers;
