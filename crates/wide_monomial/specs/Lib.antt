@@ -1,0 +1,4 @@
+pub mod Layouts
+pub mod Packing
+pub mod Sums
+pub mod SumsLaws
