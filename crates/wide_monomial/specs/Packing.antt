@@ -1,7 +1,7 @@
 -- A word of 128 bits and a vector: the degree highest, and below it the exponents from the left.
-use Rattle.std.specs.Prelude.{ℕ, zero, suc, ◌+◌, ◌-◌, ◌*◌, ◌/◌, ◌%◌, ◌^◌, ◌≤◌, ◌<◌, ◌≡◌, List, [], ◌∷◌, length, get_or}
+use Rattle.std.specs.Prelude.{ℕ, zero, suc, ◌+◌, ◌-◌, ◌*◌, ◌/◌, ◌%◌, ◌^◌, ◌≤◌, ◌<◌, ◌≡◌, List, [], ◌∷◌, length, get_or, bit_and}
 use Rattle.std.proofs.Common.{arith, inl, inr, ap, ◌∙◌}
-use Rattle.std.proofs.lemmas.Nat.{pow_pos}
+use Rattle.std.proofs.lemmas.Nat.{pow_pos, and_mask, one_shl}
 use Rattle.packed_monomial.specs.Fields.{fields, length-fields, degree-cons}
 use Rattle.sdmp_laws.specs.Order.{degree}
 use Rattle.packed_monomial.specs.Cuts.{IsCut, degree_word, HoldsDegree}
@@ -64,3 +64,7 @@ exponent-most (x ∷ xs) (suc i) h = omega (arith, degree-cons x xs, exponent-mo
 -- twice the limit fits 32 bits
 pub degree_small : (n d : ℕ) → d ≤ 2 * limit_of n → d < 2 ^ 32
 degree_small n d h = omega (arith, h, (layout_is n).limit_bound)
+
+-- the mask of one field
+pub masked : (n q : ℕ) → bit_and q (1 * 2 ^ bits_of n % 2 ^ 128 - 1) ≡ q % 2 ^ bits_of n
+masked n q = ap (λ k. bit_and q (k - 1)) (one_shl (bits_of n) 128 (omega (arith, (layout_is n).narrow))) ∙ and_mask q (bits_of n)

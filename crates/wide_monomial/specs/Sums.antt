@@ -23,6 +23,10 @@ abbrev pub low_fields : ℕ → ℕ → ℕ → List ℕ
 low_fields b zero w = []
 low_fields b (suc n) w = (w % 2 ^ b) ∷ low_fields b n (w / 2 ^ b)
 
+-- the field at a place, the lowest at 0
+abbrev pub field : ℕ → ℕ → ℕ → ℕ
+field b w i = w / 2 ^ (i * b) % 2 ^ b
+
 -- the word of a vector, and the vector of a word
 abbrev pub sums_word : ℕ → List ℕ → ℕ
 sums_word b v = low_word b (sums 0 v)

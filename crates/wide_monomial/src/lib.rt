@@ -3,11 +3,11 @@
 
 mod laws;
 mod layout;
-// mod rev_wide;
+mod rev_wide;
 mod wide;
 mod words;
 
 pub use laws::wide_layouts_fit;
 pub use layout::{WIDE_LAYOUTS, WideLayout};
-// pub use rev_wide::RevWide;
+pub use rev_wide::RevWide;
 pub use wide::Wide;

@@ -1,20 +1,17 @@
 use Rattle.std.proofs.Common.{◌≡◌, subst, sym, ap, ◌∙◌, arith, ℕ, ◌-◌, ◌*◌, ◌^◌, ◌<◌, ◌≤◌, ◌/◌, ◌%◌, bit_and, Fits, slice_index}
 use Rattle.std.specs.Int.{w32, w64}
 use Rattle.std.proofs.Math.Facts.{Fits-of_lt}
-use Rattle.wide_monomial.specs.Packing.{vector_of, bits_of, cut_is, exponent-most, degree_small, length-vector_of}
-use Rattle.wide_monomial.specs.Layouts.{layout_is, layout_of}
+use Rattle.wide_monomial.specs.Packing.{vector_of, bits_of, cut_is, exponent-most, degree_small, length-vector_of, masked}
+use Rattle.wide_monomial.specs.Layouts.{layout_of}
 use Rattle.wide_monomial.specs.declared.layout.WideLayout.{WideLayout}
 use Rattle.std.proofs.Math.Nat.{mul-le-mul_right}
-use Rattle.std.proofs.lemmas.Nat.{and_mask, one_shl}
 use Rattle.sdmp_laws.specs.Order.{degree}
 use Rattle.packed_monomial.specs.Laws.{shift_below, fields-at}
 use Rattle.wide_monomial.proofs.wide.WideMonomial.exponent.Goals as goal
 
 -- what the code reads is the exponent
 read : (n w i : ℕ) → i < n → bit_and (w / 2 ^ ((n - 1 - i) * bits_of n)) (1 * 2 ^ bits_of n % 2 ^ 128 - 1) ≡ slice_index (vector_of n w) i
-read n w i h =
-    let q : ℕ = w / 2 ^ ((n - 1 - i) * bits_of n) in
-    ap (λ k. bit_and q (k - 1)) (one_shl (bits_of n) 128 (omega (arith, (layout_is n).narrow))) ∙ and_mask q (bits_of n) ∙ sym (fields-at (bits_of n) n w i h)
+read n w i h = masked n (w / 2 ^ ((n - 1 - i) * bits_of n)) ∙ sym (fields-at (bits_of n) n w i h)
 
 small : (n w i : ℕ) → i < n → degree (vector_of n w) ≤ 2 * (layout_of n).limit → bit_and (w / 2 ^ ((n - 1 - i) * bits_of n)) (1 * 2 ^ bits_of n % 2 ^ 128 - 1) < 2 ^ 32
 small n w i h d =
