@@ -1,11 +1,11 @@
 -- Words of sums and their fields.
 use Rattle.std.specs.Prelude.{ℕ, zero, suc, ◌+◌, ◌-◌, ◌*◌, ◌/◌, ◌%◌, ◌^◌, ◌≤◌, ◌<◌, ◌≡◌, List, [], ◌∷◌, length, get_or, replicate, bit_and, ◌↔◌}
-use Rattle.std.proofs.Common.{refl, sym, ap, ◌∙◌, subst, arith, inl, inr}
-use Rattle.std.proofs.lemmas.Nat.{pow_pos, pow-add, mul-add-lt, mod-pow-add, shr_high, mod_low, shr-shr, shl-shr, and_mod, and_le_r}
+use Rattle.std.proofs.Common.{refl, sym, ap, ◌∙◌, subst, arith}
+use Rattle.std.proofs.lemmas.Nat.{pow_pos, mul-add-lt, mod-pow-add, shr_high, mod_low, shr-shr, shl-shr, and_mod, and_le_r}
 use Rattle.std.proofs.Math.Nat.{mul_comm, mul-zero, mod-one, mul-mod_left, mod-eq_of_lt, add-mul-mod_self_left}
 use Rattle.sdmp_laws.specs.Order.{degree, ◌⋅◌, Divides}
 use Rattle.packed_monomial.specs.Fields.{fields_word, AllLess, block, degree-cons, plus_step, gaps, gap_is, top_is, guards_step, length-replicate}
-use Rattle.wide_monomial.specs.Sums.{sums, rises, low_word, low_fields, sums_word, sums_vector}
+use Rattle.wide_monomial.specs.Sums.{sums, rises, low_word, low_fields, sums_vector}
 
 -- ---- lengths
 pub length-sums : (s : ℕ) (v : List ℕ) → length (sums s v) ≡ length v

@@ -1,18 +1,19 @@
 -- The laws of words that hold sums.
-use Rattle.std.specs.Prelude.{ℕ, zero, suc, ◌+◌, ◌-◌, ◌*◌, ◌/◌, ◌%◌, ◌^◌, ◌≤◌, ◌<◌, ◌≡◌, List, [], ◌∷◌, length, get_or, replicate, bit_and, ◌↔◌, ◌++◌, take}
+use Rattle.std.specs.Prelude.{ℕ, zero, suc, ◌+◌, ◌-◌, ◌*◌, ◌/◌, ◌%◌, ◌^◌, ◌≤◌, ◌<◌, ◌≡◌, List, [], ◌∷◌, length, get_or, replicate, bit_and, ◌↔◌, ◌++◌, take, sum}
 use Rattle.std.specs.Ordering.{nat_cmp}
-use Rattle.std.proofs.Common.{refl, sym, ap, ◌∙◌, subst, arith, inl, inr}
+use Rattle.std.proofs.Common.{refl, sym, ap, ◌∙◌, subst, arith, inl, inr, length-take}
+use Rattle.std.proofs.lemmas.List.{take_more}
 use Rattle.std.proofs.Props.{props}
-use Rattle.std.proofs.lemmas.Nat.{pow_pos, pow-add, shl_below, mod_below}
+use Rattle.std.proofs.lemmas.Nat.{pow_pos, pow-add, shl_below, mod_below, shl-shr, shr-shr, div-add-mod'}
 use Rattle.std.proofs.lemmas.Bool.{cases_lt}
-use Rattle.std.proofs.Math.Nat.{mul_comm, mul-zero, mul-le-mul_left, mul-le-mul_right, pow-le-pow_right, mod-eq_of_lt, mod-add-div'}
+use Rattle.std.proofs.Math.Nat.{mul_comm, mul-le-mul_left, mul-le-mul_right, pow-le-pow_right, mod-eq_of_lt, mod-add-div', mul-mod_left, div-eq_of_lt}
 use Rattle.std.specs.Int.Bits.{and_zero_r}
 use Rattle.sdmp_laws.specs.Order.{Grevlex, degree, ◌⋅◌, over, Divides, zeros, Below, TieBelow, RevBelow, compare}
 use Rattle.sdmp_laws.proofs.OrderLemmas.{is_less, is_equal, is_greater, below_total, length_times, degree_times, degree_zeros}
-use Rattle.sdmp_laws.proofs.CompareLemmas.{compare_less, compare_greater, compare_same}
-use Rattle.packed_monomial.specs.Fields.{fields_word, AllLess, AllLess-degree, block, degree-cons, place, gaps, length-gaps, gaps-AllLess, length-replicate, replicate-AllLess, length-over, times-over, cmp_less, cmp_equal, cmp_greater}
+use Rattle.sdmp_laws.proofs.CompareLemmas.{compare_less, compare_greater, compare_same, degree_is_sum}
+use Rattle.packed_monomial.specs.Fields.{fields_word, AllLess, AllLess-degree, degree-cons, place, gaps, length-gaps, gaps-AllLess, length-replicate, replicate-AllLess, length-over, times-over, cmp_less, cmp_equal, cmp_greater}
 use Rattle.packed_monomial.specs.Cuts.{IsCut}
-use Rattle.packed_monomial.specs.Laws.{degree-over, zero-Divides, shift_below}
+use Rattle.packed_monomial.specs.Laws.{degree-over, zero-Divides, shift_within}
 use Rattle.wide_monomial.specs.Sums.{sums, rises, low_word, low_fields, field, sums_word, sums_vector, HoldsSums}
 use Rattle.wide_monomial.specs.SumsFields.{length-sums, length-low_fields, length-sums_vector, rises-sums, sums-AllLess, sums-at, sums-last, sums-rises, low_word-below, low_fields-low_word, low_word-low_fields, low_fields-at, low_fields-up, top_field, low_word-times, low_word-steps, low_word-gaps, low_guards_are, low_guards, same_rest, and_low}
 
@@ -283,3 +284,114 @@ tells_is {size = size} {n = n} {b = b} {l = l} {g = g} c v w p q f h = elim c.gu
   | inl z ↦ no_guards size n b g v w z.2 (zero-Divides (sums_vector b n v) (sums_vector b n w) (length-sums_vector b n v ∙ sym (length-sums_vector b n w)) (omega (arith, f, z.1)))
   | inr z ↦ with_guards c v w (b - 1) p q (omega (arith, f, z.1)) (omega (arith, h, z.1)) z.2 z.3
 ]
+
+-- ---- reading a word, one field after another
+
+-- below the lowest field stands none
+pub first_field : (b w : ℕ) → 0 ≡ field b (w * 2 ^ b) 0
+first_field b w = sym (mul-mod_left w (2 ^ b)) ∙ low_fields-at b 1 (w * 2 ^ b) 0 (omega arith)
+
+pub next_field : (b w i : ℕ) → field b w i ≡ field b (w * 2 ^ b) (i + 1)
+next_field b w i =
+    let e : b + i * b ≡ (i + 1) * b = omega arith in
+    ap (λ k. k / 2 ^ (i * b) % 2 ^ b) (sym (shl-shr w b)) ∙ ap (λ k. k % 2 ^ b) (shr-shr (w * 2 ^ b) b (i * b)) ∙ ap (λ k. w * 2 ^ b / 2 ^ k % 2 ^ b) e
+
+-- the fields before i + 1 rise where those before i do, and the field i is not below the one before it
+pub rising_more : (b w i : ℕ) → ((k : ℕ) → k < i → field b (w * 2 ^ b) k ≤ field b w k) → field b (w * 2 ^ b) i ≤ field b w i → (k : ℕ) → k < i + 1 → field b (w * 2 ^ b) k ≤ field b w k
+rising_more b w i h j k m = elim (cases_lt k i) [
+  | inl z ↦ h k z
+  | inr z ↦ let same : i ≡ k = omega (arith, m, z) in subst (λ q. field b (w * 2 ^ b) q ≤ field b w q) same j
+]
+
+-- a word whose fields rise to at most twice the limit, with nothing above them, holds sums
+pub holds_from : (b l n w : ℕ) → ((k : ℕ) → k < n → field b (w * 2 ^ b) k ≤ field b w k) → w / 2 ^ (n * b) ≡ 0 → field b (w * 2 ^ b) n ≤ 2 * l → HoldsSums b l n w
+holds_from b l n w h none top =
+    let xs : List ℕ = low_fields b n w in
+    let v : List ℕ = rises 0 xs in
+    let len : length xs ≡ n = length-low_fields b n w in
+    let up : (k : ℕ) → k < n + 1 → get_or (0 ∷ xs) k 0 ≡ field b (w * 2 ^ b) k =
+    λ k j. ap (λ l. get_or l k 0) (low_fields-up b n w) ∙ low_fields-at b (suc n) (w * 2 ^ b) k (omega (arith, j)) in
+    let rising : (k : ℕ) → k < length xs → get_or (0 ∷ xs) k 0 ≤ get_or xs k 0 =
+    λ k j. omega (arith, up k (omega (arith, j, len)), low_fields-at b n w k (omega (arith, j, len)), h k (omega (arith, j, len))) in
+    let back : sums 0 v ≡ xs = sums-rises 0 xs rising in
+    let small : w < 2 ^ (n * b) = omega (arith, div-add-mod' w (2 ^ (n * b)), mod_below w (2 ^ (n * b)) (pow_pos (n * b)), ap (λ k. k * 2 ^ (n * b)) none) in
+    let turned : 2 ^ (n * b) ≡ 2 ^ (b * n) = ap (λ k. 2 ^ k) (mul_comm n b) in
+    let whole : low_word b (sums 0 v) ≡ w = ap (low_word b) back ∙ low_word-low_fields b n w ∙ mod-eq_of_lt (omega (arith, small, turned)) in
+    let last : get_or (0 ∷ xs) n 0 ≡ degree v =
+    ap (λ l. get_or (0 ∷ l) n 0) (sym back) ∙ ap (λ k. get_or (0 ∷ sums 0 v) k 0) (sym (length-sums_vector b n w)) ∙ sums-last 0 v ∙ omega arith in
+    (whole, omega (arith, last, up n (omega arith), top))
+
+-- and each word that holds sums is such
+pub holds_top : {size n b l g : ℕ} (c : IsCut size n b l g) (w : ℕ) → HoldsSums b l n w → (w / 2 ^ (n * b) ≡ 0) × (field b (w * 2 ^ b) n ≤ 2 * l)
+holds_top {n = n} {b = b} {l = l} c w p =
+    let v : List ℕ = sums_vector b n w in
+    let f = fields_are c w p in
+    let below : low_word b (sums 0 v) < 2 ^ (b * length (sums 0 v)) = low_word-below b (sums 0 v) (sums_fit c v p.1) in
+    let len : length (sums 0 v) ≡ n = length-sums 0 v ∙ length-sums_vector b n w in
+    let turned : b * length (sums 0 v) ≡ n * b = ap (λ k. b * k) len ∙ mul_comm b n in
+    let small : w < 2 ^ (n * b) = omega (arith, below, p.0, ap (λ k. 2 ^ k) turned) in
+    let last : field b (w * 2 ^ b) n ≡ degree v =
+    sym (ap (λ l. get_or l n 0) (low_fields-up b n w) ∙ low_fields-at b (suc n) (w * 2 ^ b) n (omega arith))
+    ∙ ap (λ l. get_or (0 ∷ l) n 0) f ∙ ap (λ k. get_or (0 ∷ sums 0 v) k 0) (sym (length-sums_vector b n w)) ∙ sums-last 0 v ∙ omega arith in
+    (div-eq_of_lt small, omega (arith, last, p.1))
+
+-- ---- packing, one exponent after another
+
+sums_step : (L q b2 s x d y p : ℕ) → p ≡ q * b2 → (L + (s + x + d + y) * q) * b2 + (s + x) ≡ (L * b2 + (s + x)) + (s + (x + d) + y) * p
+sums_step L q b2 s x d y p e = omega arith ∙ ap (λ k. (L * b2 + (s + x)) + (s + (x + d) + y) * k) (sym e)
+
+pub low_word-push : (b s : ℕ) (v : List ℕ) (y : ℕ) → low_word b (sums s (v ++ y ∷ [])) ≡ low_word b (sums s v) + (s + degree v + y) * 2 ^ (length v * b)
+unfolding degree
+low_word-push b s [] y =
+    let e : 0 * b ≡ 0 = omega arith in
+    let f : 0 + (s + 0 + y) * 2 ^ 0 ≡ 0 + (s + 0 + y) * 2 ^ (0 * b) = ap (λ k. 0 + (s + 0 + y) * 2 ^ k) (sym e) in
+    omega (arith, f)
+low_word-push b s (x ∷ xs) y =
+    let e : 2 ^ (suc (length xs) * b) ≡ 2 ^ (length xs * b) * 2 ^ b = ap (λ k. 2 ^ k) (omega arith) ∙ pow-add 2 (length xs * b) b in
+    ap (λ k. k * 2 ^ b + (s + x)) (low_word-push b (s + x) xs y)
+    ∙ sums_step (low_word b (sums (s + x) xs)) (2 ^ (length xs * b)) (2 ^ b) s x (degree xs) y (2 ^ (suc (length xs) * b)) e
+
+degree-take : (i : ℕ) (xs : List ℕ) → degree (take i xs) ≤ degree xs
+unfolding degree
+degree-take zero xs = omega arith
+degree-take (suc i) [] = omega arith
+degree-take (suc i) (x ∷ xs) = omega (arith, degree-take i xs)
+
+degree-push : (v : List ℕ) (y : ℕ) → degree (v ++ y ∷ []) ≡ degree v + y
+unfolding degree
+degree-push [] y = omega arith
+degree-push (x ∷ xs) y = omega (arith, degree-push xs y)
+
+pub record Pack (size b l : ℕ) (xs : List ℕ) (i x : ℕ) : Type 0 where
+  pub within : sum (take i xs) + x ≤ l
+  pub place : i * b < size
+  pub next_sum : sum (take i xs) + x ≡ sum (take (i + 1) xs)
+  pub whole : (sum (take i xs) + x) * 2 ^ (i * b) % 2 ^ size ≡ (sum (take i xs) + x) * 2 ^ (i * b)
+  pub fits : sums_word b (take i xs) + (sum (take i xs) + x) * 2 ^ (i * b) < 2 ^ size
+  pub next : sums_word b (take i xs) + (sum (take i xs) + x) * 2 ^ (i * b) ≡ sums_word b (take (i + 1) xs)
+
+pub pack_is : {size n b l g : ℕ} (c : IsCut size n b l g) (xs : List ℕ) (i x : ℕ) → length xs ≡ n → degree xs ≤ l → i < length xs → get_or xs i 0 ≡ x → Pack size b l xs i x
+pack_is {size = size} {n = n} {b = b} {l = l} c xs i x e h j g =
+    let t : take (i + 1) xs ≡ take i xs ++ x ∷ [] = take_more xs i 0 j ∙ ap (λ y. take i xs ++ y ∷ []) g in
+    let len : length (take i xs) ≡ i = omega (arith, length-take i xs, j) in
+    let s : degree (take i xs) ≡ sum (take i xs) = degree_is_sum (take i xs) in
+    let s1 : sum (take (i + 1) xs) ≡ sum (take i xs) + x = omega (arith, s, degree_is_sum (take (i + 1) xs), ap degree t, degree-push (take i xs) x) in
+    let push : sums_word b (take (i + 1) xs) ≡ sums_word b (take i xs) + (0 + degree (take i xs) + x) * 2 ^ (length (take i xs) * b) =
+    ap (sums_word b) t ∙ low_word-push b 0 (take i xs) x in
+    let total : 0 + degree (take i xs) + x ≡ sum (take i xs) + x = omega (arith, s) in
+    let next : sums_word b (take (i + 1) xs) ≡ sums_word b (take i xs) + (sum (take i xs) + x) * 2 ^ (i * b) =
+    push ∙ (λ k. sums_word b (take i xs) + total k * 2 ^ (len k * b)) in
+    let most : degree (take (i + 1) xs) ≤ l = omega (arith, degree-take (i + 1) xs, h) in
+    let few : length (sums 0 (take (i + 1) xs)) ≤ n = omega (arith, length-sums 0 (take (i + 1) xs), length-take (i + 1) xs, e) in
+    let small : sums_word b (take (i + 1) xs) < 2 ^ (b * length (sums 0 (take (i + 1) xs))) = low_word-below b (sums 0 (take (i + 1) xs)) (sums_fit c (take (i + 1) xs) (omega (arith, most))) in
+    let room : b * length (sums 0 (take (i + 1) xs)) ≤ size = omega (arith, mul-le-mul_left b few, c.capacity) in
+    let top : 2 ^ (b * length (sums 0 (take (i + 1) xs))) ≤ 2 ^ size = pow-le-pow_right {n = 2} (omega arith) room in
+    let fits : sums_word b (take i xs) + (sum (take i xs) + x) * 2 ^ (i * b) < 2 ^ size = omega (arith, next, small, top) in
+    record {
+      within = omega (arith, most, degree_is_sum (take (i + 1) xs), s1);
+      place = shift_within c i (omega (arith, j, e));
+      next_sum = sym s1;
+      whole = mod-eq_of_lt (omega (arith, fits));
+      fits = fits;
+      next = sym next;
+    }

@@ -93,7 +93,11 @@ impl<const N: usize> Monomial for RevWide<N> {
         let layout = WideLayout::of(N);
         let guards = layout.guards >> layout.bits;
         let apart = other.word.wrapping_sub(self.word);
-        apart.wrapping_sub(apart << layout.bits).wrapping_add(guards) & guards == guards
+        apart
+            .wrapping_sub(apart << layout.bits)
+            .wrapping_add(guards)
+            & guards
+            == guards
     }
 
     fn over(self, divisor: Self) -> Self {

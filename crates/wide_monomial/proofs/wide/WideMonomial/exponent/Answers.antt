@@ -1,4 +1,4 @@
-use Rattle.std.proofs.Common.{◌≡◌, subst, sym, ap, ◌∙◌, arith, ℕ, ◌-◌, ◌*◌, ◌^◌, ◌<◌, ◌≤◌, ◌/◌, ◌%◌, bit_and, Fits, slice_index}
+use Rattle.std.proofs.Common.{◌≡◌, subst, sym, ◌∙◌, arith, ℕ, ◌-◌, ◌*◌, ◌^◌, ◌<◌, ◌≤◌, ◌/◌, ◌%◌, bit_and, Fits, slice_index}
 use Rattle.std.specs.Int.{w32, w64}
 use Rattle.std.proofs.Math.Facts.{Fits-of_lt}
 use Rattle.wide_monomial.specs.Packing.{vector_of, bits_of, cut_is, exponent-most, degree_small, length-vector_of, masked}

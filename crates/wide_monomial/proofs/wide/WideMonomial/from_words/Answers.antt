@@ -1,4 +1,4 @@
-use Rattle.std.proofs.Common.{◌≡◌, subst, sym, refl, ap, ◌∙◌, arith, ℕ, ◌+◌, ◌-◌, ◌*◌, ◌^◌, ◌<◌, ◌/◌, ◌%◌, bit_and}
+use Rattle.std.proofs.Common.{◌≡◌, subst, sym, arith, ℕ, ◌+◌, ◌-◌, ◌*◌, ◌^◌, ◌<◌, ◌/◌, ◌%◌, bit_and}
 use Rattle.std.proofs.Math.Facts.{Fits-of_lt}
 use Rattle.sdmp_laws.specs.Order.{degree}
 use Rattle.packed_monomial.specs.Fields.{fields}
