@@ -1,12 +1,8 @@
 -- A team that has sent nothing, and its merge.
 use Rattle.std.proofs.Common.{◌≡◌, ◌≢◌, inl, ℕ, zero, suc, ◌+◌, ◌<◌, ◌≤◌, List, [], ◌∷◌, ◌++◌, length, drop, get_or, slice_index_or, map, replicate, Option, Some, None, MatchOption, Bool, false, true≢false, ℤ, All, refl, sym, ap, ◌∙◌, subst, arith, length-append}
 use Rattle.std.proofs.lemmas.List.{map-append, length-map}
-use Rattle.std.proofs.Math.ListN.{get_or-append}
 use Rattle.std.proofs.lemmas.List.Folds.{sum_by-replicate}
-use Rattle.std.proofs.Math.Seq.{get_or-append_seam}
 use Rattle.std.specs.Option.{is_some}
-use mathlib.Core.Logic.{dite}
-use native.Mathlib.Decide.{ℕ_discrete}
 use Rattle.sdmp_laws.specs.Poly.{Term, every}
 use Rattle.sdmp_laws.specs.Division.{Division}
 use Rattle.whole_laws.specs.Notes.{Note, QuotientScript, after_lead, divisor_rows}
@@ -19,11 +15,10 @@ use Rattle.dividing_rounds.specs.Runs.{DivideRun, run_start}
 use Rattle.dividing_rounds.specs.Rounds.{progress}
 use Rattle.dividing_rounds.specs.Stalls.{IsLowered}
 use Rattle.term_ring.specs.Spelling.{notes_of}
-use Rattle.term_ring.specs.Ends.{sent, IsReaderOf}
-use Rattle.term_ring.specs.declared.ring.Ring.{Ring}
-use Rattle.term_ring.specs.declared.ring.Reader.{Reader}
+use Rattle.term_ring.specs.Ends.{sent}
 use Rattle.term_ring.specs.declared.ring.Writer.{Writer}
-use Rattle.term_ring.specs.Names.{RingName, ring_name, reader_name, writer_name}
+use Rattle.term_ring.specs.Names.{RingName, writer_name}
+use Rattle.term_ring.proofs.Lists.{each_more}
 use Rattle.quotient_row.specs.Ends.{known, IsReaderOf as IsRowReaderOf}
 use Rattle.quotient_row.specs.declared.row.Row.{Row}
 use Rattle.quotient_row.specs.Spelling.{notes_of as row_notes_of}
@@ -63,9 +58,6 @@ begins_fresh vector value worker rows writer reader v e learned nothing told are
 }
 
 module _ {X M E : Type 0} where
-  pub name_of_reader : (ring : Ring X M E) (r : Reader X M E) → IsReaderOf ring r → reader_name r ≡ ring_name ring
-  name_of_reader ring r h = λ i. record { table = h.1 i; script = h.2 i; places = h.3 i }
-
   pub row_of_reader : (row : Row X M E) (r : RowReader X M E) → IsRowReaderOf row r → reader_row r ≡ row_identity row
   row_of_reader row r h = λ i. record { table = h.1 i; name = h.2 i; places = h.3 i }
 
@@ -87,20 +79,6 @@ pub record AreHired (d : Division) (W : ℕ) (row : RowIdentity) (names : List R
 pub none_hired : {A B : Type 0} (d : Division) (W : ℕ) (row : RowIdentity) (f : A → RingName) (h : B → WorkerView) (xs : List A) (ys : List B) → length xs ≡ 0 → length ys ≡ 0 → AreHired d W row (map f xs) (map h ys) 0
 none_hired d W row f h xs ys p q = record { count = length-map xs f ∙ p; long = length-map ys h ∙ q; each = λ k c y l. absurd (omega (arith, l)) }
 
--- the places of two lists before their last ones
-module _ {X Y : Type 0} (P : ℕ → X → Y → Type 0) (xs : List X) (ys : List Y) (x : X) (y : Y) (i : ℕ) where
-  seam : {Z : Type 0} (zs : List Z) (z d : Z) → length zs ≡ i → get_or (zs ++ z ∷ []) i d ≡ z
-  seam zs z d l = subst (λ (j : ℕ). get_or (zs ++ z ∷ []) j d ≡ z) l (get_or-append_seam zs z [] d)
-
-  each_more : length xs ≡ i → length ys ≡ i → ((k : ℕ) (c : X) (d : Y) → k < i → P k (get_or xs k c) (get_or ys k d)) → P i x y → (k : ℕ) (c : X) (d : Y) → k < i + 1 → P k (get_or (xs ++ x ∷ []) k c) (get_or (ys ++ y ∷ []) k d)
-  each_more l m all new k c d below = dite (ℕ_discrete k i)
-      (λ is. subst (λ (j : ℕ). P j (get_or (xs ++ x ∷ []) j c) (get_or (ys ++ y ∷ []) j d)) (sym is)
-      (subst (λ (a : X). P i a (get_or (ys ++ y ∷ []) i d)) (sym (seam xs x c l)) (subst (P i x) (sym (seam ys y d m)) new)))
-      (λ not.
-      let kx : k < length xs = omega (arith, not, below, l) in
-      let ky : k < length ys = omega (arith, not, below, m) in
-      subst (λ (a : X). P k a (get_or (ys ++ y ∷ []) k d)) (sym (get_or-append xs (x ∷ []) c k kx)) (subst (P k (get_or xs k c)) (sym (get_or-append ys (y ∷ []) d k ky)) (all k c d (omega (arith, not, below)))))
-
 one_hired : (d : Division) (W : ℕ) (row : RowIdentity) (i : ℕ) (names : List RingName) (team : List WorkerView) (name : RingName) (v : WorkerView) → AreHired d W row names team i → IsHired d W row i name v → AreHired d W row (names ++ name ∷ []) (team ++ v ∷ []) (i + 1)
 one_hired d W row i names team name v h new = record {
   count = let l = length-append names (name ∷ []) in let c = h.count in omega (arith, l, c);
@@ -109,10 +87,6 @@ one_hired d W row i names team name v h new = record {
 }
 
 module _ {A B : Type 0} (xs later : List A) (a : A) (ys after : List B) (b : B) (p : later ≡ xs ++ a ∷ []) (q : after ≡ ys ++ b ∷ []) where
-  pub names_more : (f : A → RingName) (h : B → RingName) → map f xs ≡ map h ys → f a ≡ h b → map f later ≡ map h after
-  names_more f h same new =
-      ap (map f) p ∙ map-append f xs (a ∷ []) ∙ ap (λ (n : List RingName). n ++ f a ∷ []) same ∙ ap (λ (n : RingName). map h ys ++ n ∷ []) new ∙ sym (map-append h ys (b ∷ [])) ∙ sym (ap (map h) q)
-
   pub hired_more : (f : A → RingName) (h : B → WorkerView) (d : Division) (W : ℕ) (row : RowIdentity) (i : ℕ) → AreHired d W row (map f xs) (map h ys) i → IsHired d W row i (f a) (h b) → AreHired d W row (map f later) (map h after) (i + 1)
   hired_more f h d W row i old new =
       subst (λ (n : List RingName). AreHired d W row n (map h after) (i + 1)) (sym (ap (map f) p ∙ map-append f xs (a ∷ [])))

@@ -17,11 +17,9 @@ use Rattle.std.specs.declared.cmp.PartialEq as PartialEq
 use Rattle.std.specs.declared.cmp.PartialOrd as PartialOrd
 use Rattle.std.specs.declared.cmp.Eq as Eq
 use Rattle.std.specs.declared.clone.Clone as Clone
-use Rattle.canonical_terms.specs.contracts.poly.Poly as Poly
 use Rattle.canonical_terms.specs.contracts.term.TermOf as TermOf
 use Rattle.row_merge.specs.contracts.quotient_rows.QuotientRows as QuotientRows
-use Rattle.term_ring.proofs.Shares.{snapshot_send, ring_sync}
-use Rattle.term_ring.specs.contracts.ring.Writer as Writer
+use Rattle.term_ring.proofs.Shares.{snapshot_send, writer_field_send, poly_sync, ring_sync}
 use Rattle.quotient_row.specs.contracts.row.Row as Row
 use Rattle.quotient_row.specs.contracts.row.RowReader as RowReader
 use Rattle.turnstile.proofs.Sharing.{turnstile_sync}
@@ -48,13 +46,7 @@ term_send : (M E : RattleType) → IsSend M → IsSend E → IsSend (TermOf.the_
 term_send M E s t = search sendable depth 24
 
 module _ (R M E : RattleType) (c : CoeffRing.Ghosts R.Denot E.Denot) (m : Monomial.Ghosts M.Denot) (o : Ord.Ghosts M.Denot) (e : PartialEq.Ghosts M.Denot) (p : PartialOrd.Ghosts M.Denot) where
-  poly_sync : IsSync R → IsSync M → IsSync E → IsSync (Poly.the_row R M E c m o e p)
-  poly_sync x y z = search (sendable, crosses) depth 24
-
   -- a struct without a model stands in another as its fields
-  writer_send : IsSend (Writer.the_field R M E c m o e p).row
-  writer_send = search (sendable, seat.the_send, snapshot_send) depth 24
-
   reader_send : IsSend (RowReader.the_field R M E c m o e p).row
   reader_send = search (sendable, seat.the_send, snapshot_send) depth 24
 
@@ -62,7 +54,7 @@ module _ (R M E : RattleType) (c : CoeffRing.Ghosts R.Denot E.Denot) (m : Monomi
   rows_send α r s t x y z = search (sendable, crosses, poly_sync, heap_send, term_send) depth 24
 
   sender_send : (α : NamedLft) → IsSend R → IsSend M → IsSend E → IsSync R → IsSync M → IsSync E → IsSend (Sender.the_row α R M E c m o e p)
-  sender_send α r s t x y z = search (sendable, crosses, writer_send, reader_send, rows_send, front_send) depth 24
+  sender_send α r s t x y z = search (sendable, crosses, writer_field_send, reader_send, rows_send, front_send) depth 24
 
   pub part_send : (α : NamedLft) → IsSend R → IsSend M → IsSend E → IsSync R → IsSync M → IsSync E → IsSend (Part.the_row α R M E c m o e p)
   part_send α r s t x y z = search (sendable, crosses, sender_send) depth 24

@@ -40,14 +40,6 @@ member_among rings row k v m = record {
 }
 
 module _ {X : Type 0} where
-  -- where the workers stay, so does what is seen of them
-  pub same_views : {W : Type 0} (f : X → W) (s : W → WorkerView) (xs ys : List X) → map f ys ≡ map f xs → map (λ (x : X). s (f x)) ys ≡ map (λ (x : X). s (f x)) xs
-  same_views {W = W} f s xs ys e = at ys ∙ ap (map s) e ∙ sym (at xs)
-    where
-      at : (zs : List X) → map (λ (x : X). s (f x)) zs ≡ map s (map f zs)
-      at [] = refl
-      at (z ∷ zs) = ap (λ (r : List WorkerView). s (f z) ∷ r) (at zs)
-
   -- two teams, place by place
   at_each : (P : WorkerView → WorkerView → Type 0) (f : X → WorkerView) (xs ys : List X) → length ys ≡ length xs → ((k : ℕ) (d : X) → k < length xs → P (f (get_or xs k d)) (f (get_or ys k d))) → (k : ℕ) (d : WorkerView) → k < length (map f xs) → P (get_or (map f xs) k d) (get_or (map f ys) k d)
   at_each P f [] ys e h k d lt = absurd (omega (arith, lt))

@@ -1,28 +1,24 @@
 -- A team that has sent nothing, and its merge.
 use Rattle.std.proofs.Common.{◌≡◌, ℕ, zero, suc, ◌+◌, ◌<◌, List, [], ◌∷◌, ◌++◌, length, get_or, map, replicate, refl, sym, ap, ◌∙◌, subst, arith, length-append}
 use Rattle.std.proofs.lemmas.List.{map-append, length-map}
-use Rattle.std.proofs.Math.ListN.{get_or-append}
-use Rattle.std.proofs.Math.Seq.{get_or-append_seam}
-use mathlib.Core.Logic.{dite}
-use native.Mathlib.Decide.{ℕ_discrete}
 use Rattle.sdmp_laws.specs.Order.{Order}
 use Rattle.sdmp_laws.specs.Poly.{terms, part}
 use Rattle.sdmp_laws.specs.Canonical.{Polynomial}
 use Rattle.whole_laws.specs.Notes.{Note, Product, ProductScript, script_list}
 use Rattle.whole_laws.specs.Wholes.{MergeState, merge_start, notes_of}
 use Rattle.row_merge.specs.Part.{Remaining}
-use Rattle.term_ring.specs.Ends.{head_seen, full_looks, IsWriterOf, IsReaderOf}
+use Rattle.term_ring.specs.Ends.{head_seen, full_looks, IsWriterOf}
 use Rattle.term_ring.specs.declared.ring.Ring.{Ring}
 use Rattle.term_ring.specs.declared.ring.Writer.{Writer}
-use Rattle.term_ring.specs.declared.ring.Reader.{Reader}
-use Rattle.term_ring.specs.Names.{RingName, ring_name, reader_name, writer_name}
+use Rattle.term_ring.specs.Names.{RingName, ring_name, writer_name}
 use Rattle.global_heap.specs.Names.{script_product, first_product, HasScripts, IsFit, notes_total}
 use Rattle.global_heap.specs.Merges.{MergeView, IsSound}
 use Rattle.term_ring.specs.Sending.{SenderView}
+use Rattle.term_ring.proofs.Lists.{each_more}
+use Rattle.term_ring.proofs.Naming.{name_of_writer}
 use Rattle.mul_workers.specs.Inside.{script_of_rows}
 use Rattle.mul_workers.specs.Rounds.{AreMembers, AreRead, IsTeam}
 use Rattle.mul_workers.specs.Products.{product_of}
-use Rattle.mul_workers.proofs.Sending.{name_of_writer}
 
 -- ---- one worker
 pub rows_script : (ord : Order) (n : ℕ) (rows : Remaining) (f g : Polynomial) (W w : ℕ) → (rows.modulus ≡ f.modulus) × (rows.f ≡ f.list) × (rows.g ≡ g.list) → (rows.workers ≡ W) × (rows.worker ≡ w) → script_of_rows ord n rows ≡ ProductScript (product_of ord n f g) W w
@@ -34,9 +30,6 @@ unfolding script_list
 rows_rest ord n rows f g W w a b e = e ∙ sym (ap script_list (rows_script ord n rows f g W w a b))
 
 module _ {X M E : Type 0} where
-  pub name_of_reader : (ring : Ring X M E) (r : Reader X M E) → IsReaderOf ring r → reader_name r ≡ ring_name ring
-  name_of_reader ring r h = λ i. record { table = h.1 i; script = h.2 i; places = h.3 i }
-
   pub hired_sender : (ring : Ring X M E) (w : Writer X M E) (k : ℕ) (s : SenderView) → IsWriterOf ring w → (head_seen w ≡ 0) × (full_looks w ≡ 0) → s ≡ record { ring = writer_name w; worker = k; sent = []; head = head_seen w; full_looks = full_looks w } → s ≡ record { ring = ring_name ring; worker = k; sent = []; head = 0; full_looks = 0 }
   hired_sender ring w k s of h e = e ∙ (λ i. record { ring = name_of_writer ring w of i; worker = k; sent = []; head = h.0 i; full_looks = h.1 i })
 
@@ -55,20 +48,6 @@ pub record AreHired (m : Product) (W : ℕ) (names : List RingName) (team : List
 pub none_hired : {A B : Type 0} (m : Product) (W : ℕ) (f : A → RingName) (h : B → SenderView) (xs : List A) (ys : List B) → length xs ≡ 0 → length ys ≡ 0 → AreHired m W (map f xs) (map h ys) 0
 none_hired m W f h xs ys p q = record { count = length-map xs f ∙ p; long = length-map ys h ∙ q; each = λ k c d l. absurd (omega arith) }
 
--- the places of two lists before their last ones
-module _ {X Y : Type 0} (P : ℕ → X → Y → Type 0) (xs : List X) (ys : List Y) (x : X) (y : Y) (i : ℕ) where
-  seam : {Z : Type 0} (zs : List Z) (z d : Z) → length zs ≡ i → get_or (zs ++ z ∷ []) i d ≡ z
-  seam zs z d l = subst (λ (j : ℕ). get_or (zs ++ z ∷ []) j d ≡ z) l (get_or-append_seam zs z [] d)
-
-  each_more : length xs ≡ i → length ys ≡ i → ((k : ℕ) (c : X) (d : Y) → k < i → P k (get_or xs k c) (get_or ys k d)) → P i x y → (k : ℕ) (c : X) (d : Y) → k < i + 1 → P k (get_or (xs ++ x ∷ []) k c) (get_or (ys ++ y ∷ []) k d)
-  each_more l m all new k c d below = dite (ℕ_discrete k i)
-      (λ is. subst (λ (j : ℕ). P j (get_or (xs ++ x ∷ []) j c) (get_or (ys ++ y ∷ []) j d)) (sym is)
-      (subst (λ (a : X). P i a (get_or (ys ++ y ∷ []) i d)) (sym (seam xs x c l)) (subst (P i x) (sym (seam ys y d m)) new)))
-      (λ not.
-      let kx : k < length xs = omega (arith, not) in
-      let ky : k < length ys = omega (arith, not) in
-      subst (λ (a : X). P k a (get_or (ys ++ y ∷ []) k d)) (sym (get_or-append xs (x ∷ []) c k kx)) (subst (P k (get_or xs k c)) (sym (get_or-append ys (y ∷ []) d k ky)) (all k c d (omega (arith, not)))))
-
 pub one_hired : (m : Product) (W i : ℕ) (names : List RingName) (team : List SenderView) (name : RingName) (s : SenderView) → AreHired m W names team i → IsHired m W i name s → AreHired m W (names ++ name ∷ []) (team ++ s ∷ []) (i + 1)
 one_hired m W i names team name s h new = record {
   count = let l = length-append names (name ∷ []) in let c = h.count in omega arith;
@@ -77,10 +56,6 @@ one_hired m W i names team name s h new = record {
 }
 
 module _ {A B : Type 0} (xs later : List A) (a : A) (ys after : List B) (b : B) (p : later ≡ xs ++ a ∷ []) (q : after ≡ ys ++ b ∷ []) where
-  pub names_more : (f : A → RingName) (h : B → RingName) → map f xs ≡ map h ys → f a ≡ h b → map f later ≡ map h after
-  names_more f h same new =
-      ap (map f) p ∙ map-append f xs (a ∷ []) ∙ ap (λ (n : List RingName). n ++ f a ∷ []) same ∙ ap (λ (n : RingName). map h ys ++ n ∷ []) new ∙ sym (map-append h ys (b ∷ [])) ∙ sym (ap (map h) q)
-
   pub hired_more : (f : A → RingName) (h : B → SenderView) (m : Product) (W i : ℕ) → AreHired m W (map f xs) (map h ys) i → IsHired m W i (f a) (h b) → AreHired m W (map f later) (map h after) (i + 1)
   hired_more f h m W i old new =
       subst (λ (n : List RingName). AreHired m W n (map h after) (i + 1)) (sym (ap (map f) p ∙ map-append f xs (a ∷ [])))

@@ -1,10 +1,10 @@
 -- A worker's notes follow its script.
-use Rattle.std.proofs.Common.{◌≡◌, ℕ, ◌+◌, ◌≤◌, ℤ, Bool, true, false, List, [], ◌∷◌, ◌++◌, length, map, Option, Some, None, Result, Ok, Err, IfOk, IfErr, refl, sym, ap, ◌∙◌, subst, arith, true≢false, length-append, append-nil, append_assoc}
+use Rattle.std.proofs.Common.{◌≡◌, ℕ, ◌+◌, ◌≤◌, ℤ, Bool, true, false, List, [], ◌∷◌, ◌++◌, length, map, Option, Some, None, refl, sym, ap, ◌∙◌, subst, arith, true≢false, length-append, append-nil, append_assoc}
 use Rattle.std.proofs.lemmas.List.{map-append}
 use mathlib.Core.List.{IsPrefix}
 use Rattle.sdmp_laws.specs.Order.{Order}
 use Rattle.sdmp_laws.specs.Poly.{Term}
-use Rattle.whole_laws.specs.Notes.{Note, TermNote, MarkNote, EndNote, Product, Script, ProductScript, NoEnd, MarkMayFollow, EndMayFollow, MayFollow, CarryAfter, Carry, terms_in, script_list}
+use Rattle.whole_laws.specs.Notes.{Note, TermNote, MarkNote, EndNote, Product, Script, ProductScript, NoEnd, EndMayFollow, MayFollow, CarryAfter, Carry, terms_in, script_list}
 use Rattle.whole_laws.proofs.NotesLemmas.{terms_in-append, Carry-push}
 use Rattle.row_merge.specs.Part.{Remaining}
 use Rattle.term_ring.specs.Spelling.{Belongs, note_of, notes_of}
@@ -70,9 +70,6 @@ now_whole m W w notes unsent rest EndNote c clear all next e = whole_at_end m W 
 module _ {X M E : Type 0} where
   pub writes_to : (ring : Ring X M E) (w : Writer X M E) → IsWriting w → writer_name w ≡ ring_name ring → IsWriterOf ring w
   writes_to ring w k e = (k, ap (λ r. r.table) e, ap (λ r. r.script) e, ap (λ r. r.places) e)
-
-  pub name_of_writer : (ring : Ring X M E) (w : Writer X M E) → IsWriterOf ring w → writer_name w ≡ ring_name ring
-  name_of_writer ring w h = λ i. record { table = h.1 i; script = h.2 i; places = h.3 i }
 
 -- rows with the same factors have the same script
 pub script_stays : (ord : Order) (n : ℕ) (a b : Remaining) → (b.modulus ≡ a.modulus) × (b.f ≡ a.f) × (b.g ≡ a.g) × (b.workers ≡ a.workers) × (b.worker ≡ a.worker) → script_of_rows ord n b ≡ script_of_rows ord n a

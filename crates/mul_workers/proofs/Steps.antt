@@ -1,5 +1,5 @@
 -- For loops over a team's workers.
-use Rattle.std.proofs.Common.{◌≡◌, ℕ, zero, suc, ◌+◌, ◌<◌, ◌≤◌, List, [], ◌∷◌, ◌++◌, All, length, map, get_or, set, Option, Some, None, is_some, true≢false, refl, sym, ap, ◌∙◌, subst, arith, length-set}
+use Rattle.std.proofs.Common.{◌≡◌, ℕ, zero, suc, ◌+◌, ◌<◌, ◌≤◌, List, [], ◌∷◌, length, map, get_or, set, refl, sym, ap, ◌∙◌, subst, arith, length-set}
 use Rattle.std.proofs.lemmas.List.{get_or-set_same, get_or-set_other, length-map, map-set}
 use Rattle.std.proofs.Math.ListN.{get_or-map}
 use mathlib.Core.Logic.{dite}
@@ -13,14 +13,6 @@ use Rattle.mul_workers.specs.Rounds.{IsMember, AreMembers, Moves, AllMove, Meets
 use Rattle.mul_workers.proofs.Teams.{members_among}
 
 module _ {X : Type 0} where
-  -- where the workers stay, so do their senders
-  pub same_senders : {W : Type 0} (f : X → W) (s : W → SenderView) (xs ys : List X) → map f ys ≡ map f xs → map (λ (x : X). s (f x)) ys ≡ map (λ (x : X). s (f x)) xs
-  same_senders {W = W} f s xs ys e = at ys ∙ ap (map s) e ∙ sym (at xs)
-    where
-      at : (zs : List X) → map (λ (x : X). s (f x)) zs ≡ map s (map f zs)
-      at [] = refl
-      at (z ∷ zs) = ap (λ (r : List SenderView). s (f z) ∷ r) (at zs)
-
   -- the senders of two teams, place by place
   at_each : (P : SenderView → SenderView → Type 0) (f : X → SenderView) (xs ys : List X) → length ys ≡ length xs → ((k : ℕ) (d : X) → k < length xs → P (f (get_or xs k d)) (f (get_or ys k d))) → (k : ℕ) (d : SenderView) → k < length (map f xs) → P (get_or (map f xs) k d) (get_or (map f ys) k d)
   at_each P f [] ys e h k d lt = absurd (omega arith)

@@ -2,6 +2,7 @@ pub mod Carrying
 pub mod EachMoment
 pub mod Examples
 pub mod Lists
+pub mod Naming
 pub mod RuleStays
 pub mod Seats
 pub mod Shares

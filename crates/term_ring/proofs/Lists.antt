@@ -1,11 +1,15 @@
 -- Lists and places.
-use Rattle.std.proofs.Common.{◌≡◌, ◌≢◌, ◌⊎◌, ℕ, zero, suc, ◌+◌, ◌-◌, ◌*◌, ◌%◌, ◌<◌, ◌≤◌, List, [], ◌∷◌, ◌++◌, length, get_or, set, sym, refl, ap, ◌∙◌, ⊎_elim, inl, inr, arith, length-append, append_assoc, append-nil}
+use Rattle.std.proofs.Common.{◌≡◌, ◌≢◌, ◌⊎◌, ℕ, zero, suc, ◌+◌, ◌-◌, ◌*◌, ◌%◌, ◌<◌, ◌≤◌, List, [], ◌∷◌, ◌++◌, length, get_or, set, sym, refl, ap, ◌∙◌, ⊎_elim, inl, inr, arith, length-append, append_assoc, append-nil, map, subst}
 use mathlib.Core.List.{IsPrefix}
 use mathlib.Core.Option.{some, some-injective, some-ne-none}
+use mathlib.Core.Logic.{dite}
 use lib.ListN.{get_elem?}
-use Rattle.std.proofs.lemmas.List.{set-append_right}
+use Rattle.std.proofs.lemmas.List.{set-append_right, map-append}
+use Rattle.std.proofs.Math.ListN.{get_or-append}
+use Rattle.std.proofs.Math.Seq.{get_or-append_seam}
 use Rattle.term_ring.specs.Rule.{place, words_of_ring}
 use Rattle.term_ring.specs.Views.{Comparable}
+use native.Mathlib.Decide.{ℕ_discrete}
 
 module _ {A : Type 0} where
   pub prefix_self : (xs : List A) → IsPrefix xs xs
@@ -82,3 +86,30 @@ place_below places x k a b = let m : ℕ = x % places in let h : m < places = om
 
 pub place_above : (places x k : ℕ) → 32 ≤ place places x k
 place_above places x k = let m : ℕ = x % places in let h : 32 ≤ 32 + 5 * m + k = omega arith in h
+
+-- the places of two lists before their last ones
+module _ {X Y : Type 0} (P : ℕ → X → Y → Type 0) (xs : List X) (ys : List Y) (x : X) (y : Y) (i : ℕ) where
+  seam : {Z : Type 0} (zs : List Z) (z d : Z) → length zs ≡ i → get_or (zs ++ z ∷ []) i d ≡ z
+  seam zs z d l = subst (λ (j : ℕ). get_or (zs ++ z ∷ []) j d ≡ z) l (get_or-append_seam zs z [] d)
+
+  pub each_more : length xs ≡ i → length ys ≡ i → ((k : ℕ) (c : X) (d : Y) → k < i → P k (get_or xs k c) (get_or ys k d)) → P i x y → (k : ℕ) (c : X) (d : Y) → k < i + 1 → P k (get_or (xs ++ x ∷ []) k c) (get_or (ys ++ y ∷ []) k d)
+  each_more l m all new k c d below = dite (ℕ_discrete k i)
+      (λ is. subst (λ (j : ℕ). P j (get_or (xs ++ x ∷ []) j c) (get_or (ys ++ y ∷ []) j d)) (sym is)
+      (subst (λ (a : X). P i a (get_or (ys ++ y ∷ []) i d)) (sym (seam xs x c l)) (subst (P i x) (sym (seam ys y d m)) new)))
+      (λ not.
+      let kx : k < length xs = omega (arith, not, below, l) in
+      let ky : k < length ys = omega (arith, not, below, m) in
+      subst (λ (a : X). P k a (get_or (ys ++ y ∷ []) k d)) (sym (get_or-append xs (x ∷ []) c k kx)) (subst (P k (get_or xs k c)) (sym (get_or-append ys (y ∷ []) d k ky)) (all k c d (omega (arith, not, below)))))
+
+-- two lists of one image, each with one element more
+pub same_more : {A B Z : Type 0} (xs later : List A) (a : A) (ys after : List B) (b : B) → later ≡ xs ++ a ∷ [] → after ≡ ys ++ b ∷ [] → (f : A → Z) (h : B → Z) → map f xs ≡ map h ys → f a ≡ h b → map f later ≡ map h after
+same_more {Z = Z} xs later a ys after b p q f h same new =
+    ap (map f) p ∙ map-append f xs (a ∷ []) ∙ ap (λ (n : List Z). n ++ f a ∷ []) same ∙ ap (λ (n : Z). map h ys ++ n ∷ []) new ∙ sym (map-append h ys (b ∷ [])) ∙ sym (ap (map h) q)
+
+-- where the images of two lists are the same, so are the images of those
+pub same_images : {X W Z : Type 0} (f : X → W) (s : W → Z) (xs ys : List X) → map f ys ≡ map f xs → map (λ (x : X). s (f x)) ys ≡ map (λ (x : X). s (f x)) xs
+same_images {X = X} {Z = Z} f s xs ys e = at ys ∙ ap (map s) e ∙ sym (at xs)
+  where
+    at : (zs : List X) → map (λ (x : X). s (f x)) zs ≡ map s (map f zs)
+    at [] = refl
+    at (z ∷ zs) = ap (λ (r : List Z). s (f z) ∷ r) (at zs)

@@ -1,4 +1,4 @@
--- An end may go to another thread.
+-- An end may go to another thread, and a polynomial is shared by threads.
 use denote.RattleType.{RattleType}
 use denote.Param.Send.{IsSend, IsSync, part_keyless, sendable}
 use Rattle.atomic_table.proofs.shared.Seat.TheSendSync as seat
@@ -8,6 +8,7 @@ use Rattle.term_ring.specs.contracts.ring.Ring as Ring
 use Rattle.term_ring.specs.contracts.ring.Writer as Writer
 use Rattle.term_ring.specs.contracts.ring.Reader as Reader
 use Rattle.coeff_ring.specs.declared.CoeffRing as CoeffRing
+use Rattle.canonical_terms.specs.contracts.poly.Poly as Poly
 use Rattle.packed_monomial.specs.declared.monomial.Monomial as Monomial
 use Rattle.std.specs.declared.cmp.Ord as Ord
 use Rattle.std.specs.declared.cmp.PartialEq as PartialEq
@@ -30,6 +31,13 @@ module _ (R M E : RattleType) (c : CoeffRing.Ghosts R.Denot E.Denot) (m : Monomi
 
   pub reader_send : IsSend (Reader.the_row R M E c m o e p)
   reader_send = search (sendable, seat.the_send, snapshot_send) depth 24
+
+  -- a struct without a model stands in another as its fields
+  pub writer_field_send : IsSend (Writer.the_field R M E c m o e p).row
+  writer_field_send = search (sendable, seat.the_send, snapshot_send) depth 24
+
+  pub poly_sync : IsSync R → IsSync M → IsSync E → IsSync (Poly.the_row R M E c m o e p)
+  poly_sync x y z = search (sendable, crosses) depth 24
 
 pub snapshot_sync : (T : RattleType) → IsSync (Snapshot.the_row T)
 snapshot_sync T = record { shared = λ d b o κ q. part_keyless (Snapshot.the_row T) (snapshot_send T) q d b o }

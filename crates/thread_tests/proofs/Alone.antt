@@ -7,8 +7,8 @@ use Rattle.term_ring.specs.declared.ring.Reader.{Reader}
 use Rattle.term_ring.specs.Names.{RingName, ring_name, reader_name}
 use Rattle.global_heap.specs.Names.{HasScripts}
 use Rattle.term_ring.specs.Sending.{SenderView, Sends, IsAmong}
+use Rattle.term_ring.proofs.Naming.{name_of_reader}
 use Rattle.mul_workers.specs.Rounds.{AreRead}
-use Rattle.mul_workers.proofs.Hiring.{name_of_reader}
 
 one_script : (m : Product) (a : RingName) → a.script ≡ ProductScript m 1 0 → HasScripts m (a ∷ [])
 one_script m a e zero d l = e

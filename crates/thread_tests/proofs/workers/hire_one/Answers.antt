@@ -1,6 +1,6 @@
 use Rattle.std.proofs.Common.{sym, ap, ◌∙◌}
 use Rattle.term_ring.specs.Names.{ring_name}
-use Rattle.mul_workers.proofs.Sending.{name_of_writer}
+use Rattle.term_ring.proofs.Naming.{name_of_writer}
 use Rattle.mul_workers.proofs.Hiring.{rows_script, rows_rest}
 use Rattle.thread_tests.proofs.Alone.{one_among}
 use Rattle.thread_tests.proofs.workers.hire_one.Goals as goal

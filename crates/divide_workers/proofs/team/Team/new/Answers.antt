@@ -2,10 +2,12 @@ use Rattle.std.proofs.Common.{rules, ◌≡◌, [], map, subst, ◌∙◌, arith
 use Rattle.division_laws.specs.Outcome.{division_of}
 use Rattle.term_ring.specs.Ends.{taken}
 use Rattle.term_ring.specs.Names.{ring_name, reader_name, IsReading}
+use Rattle.term_ring.proofs.Lists.{same_more}
+use Rattle.term_ring.proofs.Naming.{name_of_reader}
 use Rattle.quotient_row.specs.Ends.{IsReaderOf, IsNew}
 use Rattle.divide_merge.specs.Names.{row_identity}
 use Rattle.turnstile.proofs.Lists.{one_more, popped}
-use Rattle.divide_workers.proofs.Hiring.{AreHired, names_more, hired_more, name_of_reader, row_of_reader, hired_scripts, hired_members, hired_fresh}
+use Rattle.divide_workers.proofs.Hiring.{AreHired, hired_more, row_of_reader, hired_scripts, hired_members, hired_fresh}
 use Rattle.divide_workers.proofs.team.Team.new.Goals as goal
 
 pub loop-worker-preserved : goal.loop-worker-preserved
@@ -25,7 +27,7 @@ loop-worker-preserved g c =
       team = (let n = i.team.0 in let l = d.len in omega (arith, n, l), let n = i.team.1 in let l = d.capacity in omega (arith, n, l));
       lookers = let n = i.lookers in let l = e.len in omega (arith, n, l, t);
       looking = looker.1;
-      names = names_more c.loop-worker.readers.items c.push_reserved-in-loop-worker.new.self.items c.in_ok-ring.reader c.loop-worker.rings.items c.push_reserved.new.self.items c.in_ok-ring.ring b.items a.items reader_name ring_name i.names (name_of_reader c.in_ok-ring.ring c.in_ok-ring.reader h.reader);
+      names = same_more c.loop-worker.readers.items c.push_reserved-in-loop-worker.new.self.items c.in_ok-ring.reader c.loop-worker.rings.items c.push_reserved.new.self.items c.in_ok-ring.ring b.items a.items reader_name ring_name i.names (name_of_reader c.in_ok-ring.ring c.in_ok-ring.reader h.reader);
       reading = one_more IsReading c.loop-worker.readers.items c.push_reserved-in-loop-worker.new.self.items c.in_ok-ring.reader b.items i.reading h.reader.0;
       taken = one_more (λ r. taken r ≡ []) c.loop-worker.readers.items c.push_reserved-in-loop-worker.new.self.items c.in_ok-ring.reader b.items i.taken h.taken;
       hired = hired_more c.loop-worker.rings.items c.push_reserved.new.self.items c.in_ok-ring.ring c.loop-worker.team.items c.push_reserved-in-loop-worker-2.new.self.items c.in_ok-ring.member a.items d.items ring_name (λ w. w.worker.sender)

@@ -1,7 +1,8 @@
 use Rattle.std.proofs.Common.{sym, ap, subst, ◌∙◌}
 use Rattle.term_ring.specs.Ends.{script_in}
 use Rattle.term_ring.specs.Sending.{sender_view, Sends}
-use Rattle.mul_workers.proofs.Sending.{ready, name_of_writer, carries_ring, keeps_note, sends_note, carried_by, within_script, sends_one}
+use Rattle.term_ring.proofs.Naming.{name_of_writer}
+use Rattle.mul_workers.proofs.Sending.{ready, carries_ring, keeps_note, sends_note, carried_by, within_script, sends_one}
 use Rattle.mul_workers.proofs.sender.Sender.push.Goals as goal
 
 pub push-requires-clause-carries : goal.push-requires-clause-carries

@@ -1,9 +1,11 @@
 use Rattle.std.proofs.Common.{rules, ◌≡◌, ◌<◌, [], map, sym, subst, arith}
 use Rattle.term_ring.specs.Ends.{taken}
 use Rattle.term_ring.specs.Names.{ring_name, reader_name, IsReading}
+use Rattle.term_ring.proofs.Lists.{same_more}
+use Rattle.term_ring.proofs.Naming.{name_of_reader}
 use Rattle.mul_workers.specs.Products.{product_of}
 use Rattle.turnstile.proofs.Lists.{one_more}
-use Rattle.mul_workers.proofs.Hiring.{AreHired, none_hired, names_more, hired_more, name_of_reader, hired_scripts, hired_members}
+use Rattle.mul_workers.proofs.Hiring.{AreHired, none_hired, hired_more, hired_scripts, hired_members}
 use Rattle.mul_workers.proofs.team.Team.new.Goals as goal
 
 pub loop-worker-init : goal.loop-worker-init
@@ -31,7 +33,7 @@ loop-worker-preserved g c =
       rings = (let n = i.rings.0 in let e = a.len in omega arith, let n = i.rings.1 in let e = a.capacity in omega arith);
       readers = (let n = i.readers.0 in let e = b.len in omega arith, let n = i.readers.1 in let e = b.capacity in omega arith);
       team = (let n = i.team.0 in let e = d.len in omega arith, let n = i.team.1 in let e = d.capacity in omega arith);
-      names = names_more c.loop-worker.readers.items c.push_reserved-in-loop-worker.new.self.items c.in_ok-ring.reader c.loop-worker.rings.items c.push_reserved.new.self.items c.in_ok-ring.ring b.items a.items reader_name ring_name i.names (name_of_reader c.in_ok-ring.ring c.in_ok-ring.reader h.reader);
+      names = same_more c.loop-worker.readers.items c.push_reserved-in-loop-worker.new.self.items c.in_ok-ring.reader c.loop-worker.rings.items c.push_reserved.new.self.items c.in_ok-ring.ring b.items a.items reader_name ring_name i.names (name_of_reader c.in_ok-ring.ring c.in_ok-ring.reader h.reader);
       reading = one_more IsReading c.loop-worker.readers.items c.push_reserved-in-loop-worker.new.self.items c.in_ok-ring.reader b.items i.reading h.reader.0;
       taken = one_more (λ r. taken r ≡ []) c.loop-worker.readers.items c.push_reserved-in-loop-worker.new.self.items c.in_ok-ring.reader b.items i.taken h.taken;
       hired = hired_more c.loop-worker.rings.items c.push_reserved.new.self.items c.in_ok-ring.ring c.loop-worker.team.items c.push_reserved-in-loop-worker-2.new.self.items c.in_ok-ring.member a.items d.items ring_name (λ w. w.worker.sender) m c.args.workers c.loop-worker.worker i.hired
