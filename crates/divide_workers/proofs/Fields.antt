@@ -33,6 +33,7 @@ use Rattle.dividing_rounds.proofs.WorkloadLemmas.{has_nothing}
 use Rattle.divide_merge.specs.Names.{RowIdentity, IsFit, IsLooking, script_division, reader_row}
 use Rattle.divide_merge.proofs.OneAnswer.{top_one}
 use Rattle.divide_merge.proofs.States.{latest_new, latest_term}
+use Rattle.divide_merge.specs.Inside.{vector_of}
 use Rattle.term_ring.specs.Plain.{modulus_of}
 use Rattle.term_ring.specs.Rule.{LeavesNoRoom}
 use Rattle.term_ring.specs.Spelling.{note_of, notes_of}
@@ -47,7 +48,7 @@ use Rattle.quotient_row.specs.Ends.{IsNew, known, count_seen, count_loads, told_
 use Rattle.quotient_row.specs.Spelling.{notes_of as row_notes_of}
 use Rattle.quotient_row.specs.declared.note.RowNoteOf.{RowNoteOf}
 use Rattle.quotient_row.specs.declared.row.RowReader.{RowReader}
-use Rattle.divide_workers.specs.Fronts.{PlainFront, front_of, plain_front, vector_of, IsPastBy, UnderBy, IsAhead, IsPast, FrontFalls}
+use Rattle.divide_workers.specs.Fronts.{PlainFront, front_of, plain_front, IsPastBy, UnderBy, IsAhead, IsPast, FrontFalls}
 use Rattle.divide_workers.specs.Views.{WorkerView, script_workers}
 use Rattle.divide_workers.specs.Working.{IsWorking}
 use Rattle.divide_workers.specs.Inside.{view_of, mark_of, kept_terms, KeptBelongs, IsSender}

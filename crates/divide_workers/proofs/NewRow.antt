@@ -1,5 +1,5 @@
 -- A team goes on with a new row.
-use Rattle.std.proofs.Common.{◌≡◌, inr, ℕ, ◌+◌, ◌^◌, ◌<◌, ◌≤◌, List, [], ◌++◌, All, length, get_or, Option, Some, None, refl, sym, ap, ◌∙◌, subst, arith, append-nil}
+use Rattle.std.proofs.Common.{◌≡◌, inr, ℕ, ◌+◌, ◌^◌, ◌<◌, ◌≤◌, List, [], ◌++◌, All, length, get_or, Option, sym, ap, ◌∙◌, subst, arith, append-nil}
 use mathlib.Core.List.{IsPrefix}
 use Rattle.sdmp_laws.specs.Poly.{Term}
 use Rattle.sdmp_laws.specs.Division.{Division}
@@ -14,9 +14,7 @@ use Rattle.term_ring.specs.Names.{RingName}
 use Rattle.term_ring.specs.Sending.{SenderView}
 use Rattle.dividing_rounds.specs.Runs.{DivideRun, run_row}
 use Rattle.divide_merge.specs.Names.{RowIdentity}
-use Rattle.divide_merge.specs.Inside.{vector_of as merge_vector}
 use Rattle.divide_merge.specs.Merges.{DivideView, IsSound}
-use Rattle.divide_workers.specs.Fronts.{vector_of}
 use Rattle.divide_workers.specs.Paying.{HasRows}
 use Rattle.divide_workers.specs.Views.{WorkerView, sender_of}
 use Rattle.divide_workers.specs.Working.{IsWorking, HasRoom}
@@ -154,11 +152,6 @@ module _ (lim : ℕ) (m n : DivideView) (places : ℕ) (a b : List WorkerView) (
 -- the terms found are fewer than a quotient may have
 pub found_few : (lim : ℕ) (m : DivideView) → IsSound lim m → length m.run.state.q < 2 ^ 30
 found_few lim m s = known_below (length m.run.state.q) (λ h. s.whole.whole.within (inr h))
-
--- one optional monomial as a merge and as a worker see it
-pub same_vector : {M : Type 0} (vector : M → List ℕ) (front : Option M) → vector_of vector front ≡ merge_vector vector front
-same_vector vector None = refl
-same_vector vector (Some m) = refl
 
 module _ (lim : ℕ) (n : DivideView) (v : WorkerView) (q : List Term) (s : IsSound lim n) (mine : v.state.division ≡ n.run.state.division) (found : q ≡ n.run.state.q) where
   pub begun_there : IsBegun v.state.division q

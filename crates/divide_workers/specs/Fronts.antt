@@ -14,10 +14,6 @@ module _ {M : Type 0} where
   abbrev pub front_of : (M → List ℕ) → Front M → PlainFront
   front_of vector f = record { mono = vector f.mono; is_strict = f.is_strict }
 
-  abbrev pub vector_of : (M → List ℕ) → Option M → Option (List ℕ)
-  vector_of vector None = None
-  vector_of vector (Some m) = Some (vector m)
-
   abbrev pub plain_front : (M → List ℕ) → Option (Front M) → Option PlainFront
   plain_front vector None = None
   plain_front vector (Some f) = Some (front_of vector f)

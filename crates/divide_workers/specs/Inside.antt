@@ -16,7 +16,8 @@ use Rattle.quotient_row.specs.Spelling.{notes_of as row_notes_of}
 use Rattle.quotient_row.specs.Ends.{known, count_seen, count_loads, told_published}
 use Rattle.quotient_row.specs.declared.row.RowReader.{RowReader}
 use Rattle.divide_merge.specs.Names.{script_division, reader_row, IsLooking}
-use Rattle.divide_workers.specs.Fronts.{plain_front, vector_of}
+use Rattle.divide_merge.specs.Inside.{vector_of}
+use Rattle.divide_workers.specs.Fronts.{plain_front}
 use Rattle.divide_workers.specs.Views.{WorkerView, script_workers}
 use Rattle.divide_workers.specs.Working.{IsWorking}
 use Rattle.divide_workers.specs.declared.front.Front.{Front}

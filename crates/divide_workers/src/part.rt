@@ -10,7 +10,7 @@ ghost use Rattle.sdmp_laws.specs.Poly.{Term as PlainTerm};
 ghost use Rattle.sdmp_laws.specs.LongDivision.{quotient_list};
 ghost use Rattle.divide_wholes.specs.Wholes.{AllUnderFront};
 ghost use Rattle.canonical_terms.specs.View.{sum_of};
-ghost use Rattle.divide_workers.specs.Fronts.{vector_of};
+ghost use Rattle.divide_merge.specs.Inside.{vector_of};
 ghost use Rattle.divide_merge.specs.Names.{IsFit, IsLooking, row_identity, reader_row};
 ghost use Rattle.divide_merge.specs.Reached.{divide_name};
 ghost use Rattle.divide_workers.specs.Views.{sender_of, script_workers};

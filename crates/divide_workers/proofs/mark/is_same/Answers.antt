@@ -1,8 +1,8 @@
 use Rattle.std.proofs.Common.{◌≡◌, Some, arith, refl, sym, ap, ◌∙◌}
 use Rattle.std.specs.declared.cmp.Ordering.TheVariants.{Equal}
-use Rattle.divide_workers.specs.Fronts.{vector_of}
 use Rattle.divide_workers.proofs.Comparing.{compared}
 use Rattle.divide_workers.proofs.mark.is_same.Goals as goal
+use Rattle.divide_merge.specs.Inside.{vector_of}
 
 pub returns-in-Equal : goal.returns-in-Equal
 returns-in-Equal g c =

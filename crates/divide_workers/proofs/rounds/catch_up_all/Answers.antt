@@ -7,7 +7,7 @@ use Rattle.divide_merge.specs.Names.{IsLooking, reader_row}
 use Rattle.divide_workers.specs.Paying.{HasRows}
 use Rattle.divide_workers.specs.Steps.{CatchesUp}
 use Rattle.divide_workers.proofs.Changing.{changed_first, still_here, changed_here}
-use Rattle.divide_workers.proofs.NewRow.{same_vector, begun_there, front_there, name_there, caught_there}
+use Rattle.divide_workers.proofs.NewRow.{begun_there, front_there, name_there, caught_there}
 use Rattle.divide_workers.proofs.rounds.catch_up_all.Given as given
 use Rattle.divide_workers.proofs.rounds.catch_up_all.Goals as goal
 use Rattle.divide_workers.proofs.rounds.catch_up_all.Goals.{After-quotient}
@@ -45,7 +45,7 @@ pub catch_up-requires-clause-front : goal.catch_up-requires-clause-front
 catch_up-requires-clause-front g c κs within =
     let m = c.args.merge.now in
     let mine = its_division g (goal.at.catch_up-requires-clause-front g c).After-quotient in
-    front_there g.M.Monomial.LIM m (get_or c.loop-worker.workers c.loop-worker.worker c.index-workers-worker.result).worker.sender _ c.whole.ensures.sound mine c.quotient.ensures.terms _ (same_vector g.M.Monomial.vector c.front-front.result ∙ c.front-front.ensures.front)
+    front_there g.M.Monomial.LIM m (get_or c.loop-worker.workers c.loop-worker.worker c.index-workers-worker.result).worker.sender _ c.whole.ensures.sound mine c.quotient.ensures.terms _ c.front-front.ensures.front
 
 pub catch_up-requires-clause-belongs : goal.catch_up-requires-clause-belongs
 catch_up-requires-clause-belongs g c κs within =
@@ -79,7 +79,7 @@ loop-worker-preserved g c =
     record {
       changed = changed_here (CatchesUp m.row (length m.run.state.q) m.run.state.front) (λ w. w.worker.sender) c.args.workers.now c.loop-worker.workers c.loop-worker.worker c.index-workers-worker.result _ c.catch_up.new.self.sender refl i.changed
           (let t = c.loop-worker-test.true in let l = c.loop-worker.auto.workers in omega arith)
-          (caught_there m (get_or c.loop-worker.workers c.loop-worker.worker c.index-workers-worker.result).worker.sender c.catch_up.new.self.sender _ _ _ h.0.1 (length_is g (goal.at.loop-worker-preserved g c).After-quotient) (same_vector g.M.Monomial.vector c.front-front.result ∙ c.front-front.ensures.front) c.catch_up.ensures);
+          (caught_there m (get_or c.loop-worker.workers c.loop-worker.worker c.index-workers-worker.result).worker.sender c.catch_up.new.self.sender _ _ _ h.0.1 (length_is g (goal.at.loop-worker-preserved g c).After-quotient) c.front-front.ensures.front c.catch_up.ensures);
       readers = h.1;
       count = let n = i.count in let k = h.2 in omega arith;
     }

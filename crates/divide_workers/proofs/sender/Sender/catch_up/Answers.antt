@@ -1,10 +1,10 @@
 use Rattle.std.proofs.Common.{length, true≢false, refl, sym, subst, ◌∙◌, arith}
 use Rattle.std.proofs.lemmas.List.{length-map}
 use Rattle.canonical_terms.specs.View.{term_of, sum_of}
-use Rattle.divide_workers.specs.Fronts.{vector_of}
 use Rattle.divide_workers.proofs.Meeting.{CaughtUp, caught_idle, caught, under_still, caught_up_is, catches_up}
 use Rattle.divide_workers.proofs.sender.Sender.catch_up.Goals.{then-has_rows, else-has_rows}
 use Rattle.divide_workers.proofs.sender.Sender.catch_up.Goals as goal
+use Rattle.divide_merge.specs.Inside.{vector_of}
 
 pub take_front-requires-clause-front : goal.take_front-requires-clause-front
 take_front-requires-clause-front g c κs within =

@@ -1,9 +1,9 @@
 use Rattle.std.proofs.Common.{subst}
 use Rattle.divide_workers.specs.Views.{WorkerView}
-use Rattle.divide_workers.specs.Fronts.{vector_of}
 use Rattle.divide_wholes.specs.Workers.{IsUnreadTop}
 use Rattle.divide_workers.proofs.Fields.{own_top}
 use Rattle.divide_workers.proofs.sender.Sender.mark.Goals as goal
+use Rattle.divide_merge.specs.Inside.{vector_of}
 
 pub returns : goal.returns
 returns g c =

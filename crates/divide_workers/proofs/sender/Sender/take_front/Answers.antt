@@ -1,12 +1,13 @@
 use Rattle.std.proofs.Common.{false, Some, sym, ap, subst}
 use Rattle.dividing_rounds.specs.Stalls.{IsLowered}
-use Rattle.divide_workers.specs.Fronts.{vector_of, front_of, front_mono}
+use Rattle.divide_workers.specs.Fronts.{front_of, front_mono}
 use Rattle.divide_workers.specs.Inside.{view_of}
 use Rattle.divide_workers.specs.Views.{WorkerView}
 use Rattle.divide_workers.specs.Steps.{IsFrontOf, LearnsMore}
 use Rattle.divide_workers.proofs.Fields.{hears, lowered, learns_none, takes_lower, ahead_of_news, lowered_none}
 use Rattle.divide_workers.proofs.Ahead.{falls_lowered}
 use Rattle.divide_workers.proofs.sender.Sender.take_front.Goals as goal
+use Rattle.divide_merge.specs.Inside.{vector_of}
 
 pub invariant_of-self : goal.invariant_of-self
 invariant_of-self g c =
