@@ -10,4 +10,6 @@ mod sessions;
 #[cfg(test)]
 mod texts;
 #[cfg(test)]
+mod wide_monomials;
+#[cfg(test)]
 mod words;
