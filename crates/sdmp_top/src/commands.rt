@@ -1,7 +1,6 @@
 //! What the lines of a body do.
-ghost use Rattle.std.specs.Prelude.{◌≡◌, ◌≢◌, [], Ok, Err, IfErr, OnOk, OnErr};
+ghost use Rattle.std.specs.Prelude.{◌≡◌, ◌≢◌, [], map, All, Ok, Err, IfErr, OnOk, OnErr};
 ghost use Rattle.sdmp_laws.specs.Poly.{IsPoly};
-ghost use Rattle.calc_session.specs.Body.{Show, Mul, Div, Rem};
 ghost use Rattle.calc_session.specs.Session.{answer_to, answer_of};
 ghost use Rattle.calc_session.specs.View.{held};
 ghost use Rattle.sdmp_top.specs.Work.{IsTallied, calculations_of, line_calculations, tally_of};
@@ -9,7 +8,7 @@ ghost use Rattle.sdmp_top.specs.Work.{IsTallied, calculations_of, line_calculati
 use crate::division::{quotient, remainder};
 use crate::ends::Ends;
 use crate::workers::{Workers, product};
-use calc_session::{BodySession, Line, LineFault, parse_line, write_line, write_none, write_pair};
+use calc_session::{BodySession, Command, Line, LineFault, parse_line, write_line, write_none, write_pair};
 use canonical_terms::Poly;
 use coeff_ring::CoeffRing;
 use packed_monomial::Monomial;
@@ -37,29 +36,56 @@ pub fn answer_line<T: Threads + Sync, G: Gate, R: CoeffRing, M: Monomial>(
     match parse_line(line, session.names())? {
         Line::Skip => Ok(()),
         Line::Define { name, start } => session.define(alloc, name, line, start),
-        Line::Show { a } => show(alloc, session, a, out),
-        Line::Mul { a, b } => multiply(alloc, by, ends, session, a, b, out),
-        Line::Div { a, b } => divide(alloc, by, ends, session, a, b, out),
-        Line::Rem { a, b } => divide_with_rest(alloc, by, ends, session, a, b, out),
+        Line::Ask { command, names } => {
+            let polynomials = session.polynomials(alloc, names)?;
+            answer(alloc, by, ends, session, command, &polynomials, out)
+        }
     }
 }
 
-// writes the text of what the name stands for
-fn show<R: CoeffRing, M: Monomial>(
+// writes what the command makes of polynomials of the session
+fn answer<T: Threads + Sync, G: Gate, R: CoeffRing, M: Monomial>(
     alloc: Global,
+    by: &Workers<'_, T, G>,
+    ends: &mut Ends,
     session: &BodySession<R, M>,
-    a: &[u8],
+    command: Command,
+    polynomials: &[&Poly<R, M>],
     out: &mut Vec<u8>,
 ) -> Result<(), LineFault>
     requires empty { out.old.items ≡ [] }
-    ensures ok { OnOk result (answer_of session.now.setting (held session.now.defined) (Show a.now) ≡ Ok out.new.items) }
-    ensures refused { IfErr result (λ fault. fault ≢ LineFault.NoMemory → answer_of session.now.setting (held session.now.defined) (Show a.now) ≡ Err fault) }
+    requires moduli { All (λ f. f.now.modulus ≡ session.now.setting.modulus) polynomials.now }
+    ensures ok { OnOk result (answer_of session.now.setting command (map (λ f. f.now.list) polynomials.now) ≡ Ok out.new.items) }
+    ensures refused { IfErr result (λ fault. fault ≢ LineFault.NoMemory → answer_of session.now.setting command (map (λ f. f.now.list) polynomials.now) ≡ Err fault) }
+    ensures same { OnErr result (out.new.items ≡ []) }
+    ensures tallied { OnOk result (IsTallied by.now.workers (calculations_of session.now.setting command (map (λ f. f.now.list) polynomials.now)) (tally_of ends.old) (tally_of ends.new)) }
+    ensures untallied { IfErr result (λ fault. fault ≢ LineFault.NoMemory → tally_of ends.new ≡ tally_of ends.old) }
+{
+    match command {
+        Command::Show => show(alloc, session, polynomials, out),
+        Command::Mul => multiply(alloc, by, ends, session, polynomials, out),
+        Command::Div => divide(alloc, by, ends, session, polynomials, out),
+        Command::Rem => divide_with_rest(alloc, by, ends, session, polynomials, out),
+    }
+}
+
+// writes the text of the polynomial
+fn show<R: CoeffRing, M: Monomial>(
+    alloc: Global,
+    session: &BodySession<R, M>,
+    polynomials: &[&Poly<R, M>],
+    out: &mut Vec<u8>,
+) -> Result<(), LineFault>
+    requires empty { out.old.items ≡ [] }
+    requires moduli { All (λ f. f.now.modulus ≡ session.now.setting.modulus) polynomials.now }
+    ensures ok { OnOk result (answer_of session.now.setting Command.Show (map (λ f. f.now.list) polynomials.now) ≡ Ok out.new.items) }
+    ensures refused { IfErr result (λ fault. fault ≢ LineFault.NoMemory → answer_of session.now.setting Command.Show (map (λ f. f.now.list) polynomials.now) ≡ Err fault) }
     ensures same { OnErr result (out.new.items ≡ []) }
 {
-    match session.look_up(a) {
-        Ok(f) => write_line(alloc, f, session.names(), out),
-        Err(fault) => Err(fault),
-    }
+    let [f] = polynomials else {
+        return Err(LineFault::ArgumentCount);
+    };
+    write_line(alloc, f, session.names(), out)
 }
 
 // writes the text of the product
@@ -68,22 +94,22 @@ fn multiply<T: Threads + Sync, G: Gate, R: CoeffRing, M: Monomial>(
     by: &Workers<'_, T, G>,
     ends: &mut Ends,
     session: &BodySession<R, M>,
-    a: &[u8],
-    b: &[u8],
+    polynomials: &[&Poly<R, M>],
     out: &mut Vec<u8>,
 ) -> Result<(), LineFault>
     requires empty { out.old.items ≡ [] }
-    ensures ok { OnOk result (answer_of session.now.setting (held session.now.defined) (Mul a.now b.now) ≡ Ok out.new.items) }
-    ensures refused { IfErr result (λ fault. fault ≢ LineFault.NoMemory → answer_of session.now.setting (held session.now.defined) (Mul a.now b.now) ≡ Err fault) }
+    requires moduli { All (λ f. f.now.modulus ≡ session.now.setting.modulus) polynomials.now }
+    ensures ok { OnOk result (answer_of session.now.setting Command.Mul (map (λ f. f.now.list) polynomials.now) ≡ Ok out.new.items) }
+    ensures refused { IfErr result (λ fault. fault ≢ LineFault.NoMemory → answer_of session.now.setting Command.Mul (map (λ f. f.now.list) polynomials.now) ≡ Err fault) }
     ensures same { OnErr result (out.new.items ≡ []) }
-    ensures tallied { OnOk result (IsTallied by.now.workers (calculations_of session.now.setting (held session.now.defined) (Mul a.now b.now)) (tally_of ends.old) (tally_of ends.new)) }
+    ensures tallied { OnOk result (IsTallied by.now.workers (calculations_of session.now.setting Command.Mul (map (λ f. f.now.list) polynomials.now)) (tally_of ends.old) (tally_of ends.new)) }
     ensures untallied { IfErr result (λ fault. fault ≢ LineFault.NoMemory → tally_of ends.new ≡ tally_of ends.old) }
 {
-    let names = session.names();
-    let f = session.look_up(a)?;
-    let g = session.look_up(b)?;
+    let [f, g] = polynomials else {
+        return Err(LineFault::ArgumentCount);
+    };
     let product = product(alloc, by, ends, f, g)?;
-    write_line(alloc, &product, names, out)
+    write_line(alloc, &product, session.names(), out)
 }
 
 // writes the text of the exact quotient, or that there is none
@@ -92,24 +118,24 @@ fn divide<T: Threads + Sync, G: Gate, R: CoeffRing, M: Monomial>(
     by: &Workers<'_, T, G>,
     ends: &mut Ends,
     session: &BodySession<R, M>,
-    a: &[u8],
-    b: &[u8],
+    polynomials: &[&Poly<R, M>],
     out: &mut Vec<u8>,
 ) -> Result<(), LineFault>
     requires empty { out.old.items ≡ [] }
-    ensures ok { OnOk result (answer_of session.now.setting (held session.now.defined) (Div a.now b.now) ≡ Ok out.new.items) }
-    ensures refused { IfErr result (λ fault. fault ≢ LineFault.NoMemory → answer_of session.now.setting (held session.now.defined) (Div a.now b.now) ≡ Err fault) }
+    requires moduli { All (λ f. f.now.modulus ≡ session.now.setting.modulus) polynomials.now }
+    ensures ok { OnOk result (answer_of session.now.setting Command.Div (map (λ f. f.now.list) polynomials.now) ≡ Ok out.new.items) }
+    ensures refused { IfErr result (λ fault. fault ≢ LineFault.NoMemory → answer_of session.now.setting Command.Div (map (λ f. f.now.list) polynomials.now) ≡ Err fault) }
     ensures same { OnErr result (out.new.items ≡ []) }
-    ensures tallied { OnOk result (IsTallied by.now.workers (calculations_of session.now.setting (held session.now.defined) (Div a.now b.now)) (tally_of ends.old) (tally_of ends.new)) }
+    ensures tallied { OnOk result (IsTallied by.now.workers (calculations_of session.now.setting Command.Div (map (λ f. f.now.list) polynomials.now)) (tally_of ends.old) (tally_of ends.new)) }
     ensures untallied { IfErr result (λ fault. fault ≢ LineFault.NoMemory → tally_of ends.new ≡ tally_of ends.old) }
 {
-    let names = session.names();
-    let f = session.look_up(a)?;
-    let g = session.look_up(b)?;
+    let [f, g] = polynomials else {
+        return Err(LineFault::ArgumentCount);
+    };
     canonical(f);
     canonical(g);
     match quotient(alloc, by, ends, f, g)? {
-        Some(quotient) => write_line(alloc, &quotient, names, out),
+        Some(quotient) => write_line(alloc, &quotient, session.names(), out),
         None => write_none(out),
     }
 }
@@ -120,24 +146,24 @@ fn divide_with_rest<T: Threads + Sync, G: Gate, R: CoeffRing, M: Monomial>(
     by: &Workers<'_, T, G>,
     ends: &mut Ends,
     session: &BodySession<R, M>,
-    a: &[u8],
-    b: &[u8],
+    polynomials: &[&Poly<R, M>],
     out: &mut Vec<u8>,
 ) -> Result<(), LineFault>
     requires empty { out.old.items ≡ [] }
-    ensures ok { OnOk result (answer_of session.now.setting (held session.now.defined) (Rem a.now b.now) ≡ Ok out.new.items) }
-    ensures refused { IfErr result (λ fault. fault ≢ LineFault.NoMemory → answer_of session.now.setting (held session.now.defined) (Rem a.now b.now) ≡ Err fault) }
+    requires moduli { All (λ f. f.now.modulus ≡ session.now.setting.modulus) polynomials.now }
+    ensures ok { OnOk result (answer_of session.now.setting Command.Rem (map (λ f. f.now.list) polynomials.now) ≡ Ok out.new.items) }
+    ensures refused { IfErr result (λ fault. fault ≢ LineFault.NoMemory → answer_of session.now.setting Command.Rem (map (λ f. f.now.list) polynomials.now) ≡ Err fault) }
     ensures same { OnErr result (out.new.items ≡ []) }
-    ensures tallied { OnOk result (IsTallied by.now.workers (calculations_of session.now.setting (held session.now.defined) (Rem a.now b.now)) (tally_of ends.old) (tally_of ends.new)) }
+    ensures tallied { OnOk result (IsTallied by.now.workers (calculations_of session.now.setting Command.Rem (map (λ f. f.now.list) polynomials.now)) (tally_of ends.old) (tally_of ends.new)) }
     ensures untallied { IfErr result (λ fault. fault ≢ LineFault.NoMemory → tally_of ends.new ≡ tally_of ends.old) }
 {
-    let names = session.names();
-    let f = session.look_up(a)?;
-    let g = session.look_up(b)?;
+    let [f, g] = polynomials else {
+        return Err(LineFault::ArgumentCount);
+    };
     canonical(f);
     canonical(g);
     let divided = remainder(alloc, by, ends, f, g)?;
-    write_pair(alloc, &divided.quotient, &divided.remainder, names, out)
+    write_pair(alloc, &divided.quotient, &divided.remainder, session.names(), out)
 }
 
 // a polynomial's list is canonical, which its invariant says
