@@ -1,5 +1,5 @@
 //! What the lines of a body do.
-ghost use Rattle.std.specs.Prelude.{◌≡◌, ◌≢◌, [], map, All, Ok, Err, IfErr, OnOk, OnErr};
+ghost use Rattle.std.specs.Prelude.{◌≡◌, ◌≢◌, ◌∷◌, [], ℕ, length, map, All, Ok, Err, IfErr, IfSome, MatchOption, OnOk, OnErr};
 ghost use Rattle.sdmp_laws.specs.Poly.{IsPoly};
 ghost use Rattle.calc_session.specs.Session.{answer_to, answer_of};
 ghost use Rattle.calc_session.specs.View.{held};
@@ -105,11 +105,12 @@ fn multiply<T: Threads + Sync, G: Gate, R: CoeffRing, M: Monomial>(
     ensures tallied { OnOk result (IsTallied by.now.workers (calculations_of session.now.setting Command.Mul (map (λ f. f.now.list) polynomials.now)) (tally_of ends.old) (tally_of ends.new)) }
     ensures untallied { IfErr result (λ fault. fault ≢ LineFault.NoMemory → tally_of ends.new ≡ tally_of ends.old) }
 {
-    let [f, g] = polynomials else {
+    let names = session.names();
+    let Some((f, g)) = pair(polynomials) else {
         return Err(LineFault::ArgumentCount);
     };
     let product = product(alloc, by, ends, f, g)?;
-    write_line(alloc, &product, session.names(), out)
+    write_line(alloc, &product, names, out)
 }
 
 // writes the text of the exact quotient, or that there is none
@@ -129,13 +130,12 @@ fn divide<T: Threads + Sync, G: Gate, R: CoeffRing, M: Monomial>(
     ensures tallied { OnOk result (IsTallied by.now.workers (calculations_of session.now.setting Command.Div (map (λ f. f.now.list) polynomials.now)) (tally_of ends.old) (tally_of ends.new)) }
     ensures untallied { IfErr result (λ fault. fault ≢ LineFault.NoMemory → tally_of ends.new ≡ tally_of ends.old) }
 {
-    let [f, g] = polynomials else {
+    let names = session.names();
+    let Some((f, g)) = pair(polynomials) else {
         return Err(LineFault::ArgumentCount);
     };
-    canonical(f);
-    canonical(g);
     match quotient(alloc, by, ends, f, g)? {
-        Some(quotient) => write_line(alloc, &quotient, session.names(), out),
+        Some(quotient) => write_line(alloc, &quotient, names, out),
         None => write_none(out),
     }
 }
@@ -157,18 +157,34 @@ fn divide_with_rest<T: Threads + Sync, G: Gate, R: CoeffRing, M: Monomial>(
     ensures tallied { OnOk result (IsTallied by.now.workers (calculations_of session.now.setting Command.Rem (map (λ f. f.now.list) polynomials.now)) (tally_of ends.old) (tally_of ends.new)) }
     ensures untallied { IfErr result (λ fault. fault ≢ LineFault.NoMemory → tally_of ends.new ≡ tally_of ends.old) }
 {
-    let [f, g] = polynomials else {
+    let names = session.names();
+    let Some((f, g)) = pair(polynomials) else {
         return Err(LineFault::ArgumentCount);
     };
-    canonical(f);
-    canonical(g);
     let divided = remainder(alloc, by, ends, f, g)?;
-    write_pair(alloc, &divided.quotient, &divided.remainder, session.names(), out)
+    write_pair(alloc, &divided.quotient, &divided.remainder, names, out)
 }
 
-// a polynomial's list is canonical, which its invariant says
-fn canonical<R: CoeffRing, M: Monomial>(f: &Poly<R, M>)
-    ensures { IsPoly M.order f.now.modulus M.VARS f.now.list }
+// the two polynomials, where there are two
+fn pair<'a, R: CoeffRing, M: Monomial>(
+    polynomials: &[&'a Poly<R, M>],
+) -> Option<(&'a Poly<R, M>, &'a Poly<R, M>)>
+    ensures lists { MatchOption
+        result
+        (length polynomials.now ≢ 2)
+        (λ both. map (λ f. f.now.list) polynomials.now ≡ both.0.now.list ∷ both.1.now.list ∷ []) }
+    ensures moduli { IfSome
+        result
+        (λ both. (p : ℕ) → All (λ f. f.now.modulus ≡ p) polynomials.now → (both.0.now.modulus ≡ p) × (both.1.now.modulus ≡ p)) }
+    ensures canonical { IfSome
+        result
+        (λ both. IsPoly M.order both.0.now.modulus M.VARS both.0.now.list × IsPoly M.order both.1.now.modulus M.VARS both.1.now.list) }
 {
+    let [f, g] = polynomials else {
+        return None;
+    };
+    // each is canonical
     let _ = f.terms();
+    let _ = g.terms();
+    Some((*f, *g))
 }
