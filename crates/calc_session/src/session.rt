@@ -75,11 +75,7 @@ impl<R: CoeffRing, M: Monomial> BodySession<R, M> {
     }
 
     /// The polynomials that the words stand for, in order, or that one of them stands for none.
-    pub fn polynomials(
-        &self,
-        alloc: Global,
-        names: &[u8],
-    ) -> Result<Vec<&Poly<R, M>>, LineFault>
+    pub fn polynomials(&self, alloc: Global, names: &[u8]) -> Result<Vec<&Poly<R, M>>, LineFault>
         ensures known { IfOk result (λ fs. polynomials_of (held self.now.defined) (words_of names.now) ≡ Ok (map (λ f. f.now.list) fs.items)) }
         ensures unknown { IfErr result (λ fault. fault ≢ LineFault.NoMemory → polynomials_of (held self.now.defined) (words_of names.now) ≡ Err fault) }
         ensures modulus { IfOk result (λ fs. All (λ f. f.now.modulus ≡ self.now.setting.modulus) fs.items) }

@@ -8,7 +8,9 @@ ghost use Rattle.sdmp_top.specs.Work.{IsTallied, calculations_of, line_calculati
 use crate::division::{quotient, remainder};
 use crate::ends::Ends;
 use crate::workers::{Workers, product};
-use calc_session::{BodySession, Command, Line, LineFault, parse_line, write_line, write_none, write_pair};
+use calc_session::{
+    BodySession, Command, Line, LineFault, parse_line, write_line, write_none, write_pair,
+};
 use canonical_terms::Poly;
 use coeff_ring::CoeffRing;
 use packed_monomial::Monomial;
@@ -38,13 +40,13 @@ pub fn answer_line<T: Threads + Sync, G: Gate, R: CoeffRing, M: Monomial>(
         Line::Define { name, start } => session.define(alloc, name, line, start),
         Line::Ask { command, names } => {
             let polynomials = session.polynomials(alloc, names)?;
-            answer(alloc, by, ends, session, command, &polynomials, out)
+            answer_command(alloc, by, ends, session, command, &polynomials, out)
         }
     }
 }
 
 // writes what the command makes of polynomials of the session
-fn answer<T: Threads + Sync, G: Gate, R: CoeffRing, M: Monomial>(
+fn answer_command<T: Threads + Sync, G: Gate, R: CoeffRing, M: Monomial>(
     alloc: Global,
     by: &Workers<'_, T, G>,
     ends: &mut Ends,

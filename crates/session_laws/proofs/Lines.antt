@@ -138,13 +138,13 @@ module _ (old : Defined) where
 
   unknown_is : (names : List (List ℕ)) → IsUnknown old names → polynomials_of old names ≡ Err UnknownName
   unknown_is [] (k, other, below, at, none) = absurd (omega (arith, below))
-  unknown_is (name ∷ names) h = by (old name) refl
+  unknown_is (name ∷ names) h = by (old name) refl (unknown_is names)
     where
-      by : (o : Option (List Term)) → old name ≡ o → polynomials_of old (name ∷ names) ≡ Err UnknownName
-      by None e = bind_err (known (old name)) UnknownName (λ f. polynomials_of old names >>= (λ fs. Ok (f ∷ fs))) (ap known e)
-      by (Some f) e =
+      by : (o : Option (List Term)) → old name ≡ o → (IsUnknown old names → polynomials_of old names ≡ Err UnknownName) → polynomials_of old (name ∷ names) ≡ Err UnknownName
+      by None e later = bind_err (known (old name)) UnknownName (λ f. polynomials_of old names >>= (λ fs. Ok (f ∷ fs))) (ap known e)
+      by (Some f) e later =
           bind_ok (known (old name)) f (λ f. polynomials_of old names >>= (λ fs. Ok (f ∷ fs))) (ap known e)
-          ∙ bind_err (polynomials_of old names) UnknownName (λ fs. Ok (f ∷ fs)) (unknown_is names (unknown_later name names f e h))
+          ∙ bind_err (polynomials_of old names) UnknownName (λ fs. Ok (f ∷ fs)) (later (unknown_later name names f e h))
 
   names_some : (names : List (List ℕ)) → IsUnknown old names ⊎ ((fs : List (List Term)) × StandFor old names fs)
   names_some [] = inr ([], refl)

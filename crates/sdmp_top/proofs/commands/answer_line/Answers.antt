@@ -59,18 +59,18 @@ returns-in_err-polynomials-in-Ask-clause-refused g c =
 
 pub returns-in_ok-polynomials-in-Ask-clause-answered : goal.returns-in_ok-polynomials-in-Ask-clause-answered
 returns-in_ok-polynomials-in-Ask-clause-answered g c =
-    answered c.args.session.now c.args.line.now c.in-Ask.command (words_of c.in-Ask.names.now) _ c.answer.result (search rules)
+    answered c.args.session.now c.args.line.now c.in-Ask.command (words_of c.in-Ask.names.now) _ c.answer_command.result (search rules)
     (known_there (λ f. f.now.list) (held c.args.session.now.defined) (words_of c.in-Ask.names.now) c.in_ok-polynomials-in-Ask.polynomials.items c.deref.result.now c.in_ok-polynomials-in-Ask.ensures.known c.deref.ensures.value)
-    c.answer.new.out.items c.answer.ensures.ok
+    c.answer_command.new.out.items c.answer_command.ensures.ok
 
 pub returns-in_ok-polynomials-in-Ask-clause-refused : goal.returns-in_ok-polynomials-in-Ask-clause-refused
 returns-in_ok-polynomials-in-Ask-clause-refused g c =
-    refused c.args.session.now c.args.line.now c.in-Ask.command (words_of c.in-Ask.names.now) _ c.answer.result (search rules)
+    refused c.args.session.now c.args.line.now c.in-Ask.command (words_of c.in-Ask.names.now) _ c.answer_command.result (search rules)
     (known_there (λ f. f.now.list) (held c.args.session.now.defined) (words_of c.in-Ask.names.now) c.in_ok-polynomials-in-Ask.polynomials.items c.deref.result.now c.in_ok-polynomials-in-Ask.ensures.known c.deref.ensures.value)
-    c.answer.ensures.refused
+    c.answer_command.ensures.refused
 
 pub returns-in_ok-polynomials-in-Ask-clause-tallied : goal.returns-in_ok-polynomials-in-Ask-clause-tallied
 returns-in_ok-polynomials-in-Ask-clause-tallied g c =
-    tallied_by c.answer.result c.args.by.now.workers c.args.session.now.setting (held c.args.session.now.defined) c.args.line.now c.in-Ask.command (words_of c.in-Ask.names.now) _ (tally_of c.args.ends.now) (tally_of c.answer.new.ends) (search rules)
+    tallied_by c.answer_command.result c.args.by.now.workers c.args.session.now.setting (held c.args.session.now.defined) c.args.line.now c.in-Ask.command (words_of c.in-Ask.names.now) _ (tally_of c.args.ends.now) (tally_of c.answer_command.new.ends) (search rules)
     (known_there (λ f. f.now.list) (held c.args.session.now.defined) (words_of c.in-Ask.names.now) c.in_ok-polynomials-in-Ask.polynomials.items c.deref.result.now c.in_ok-polynomials-in-Ask.ensures.known c.deref.ensures.value)
-    c.answer.ensures.tallied
+    c.answer_command.ensures.tallied
