@@ -1,5 +1,5 @@
 -- Lemmas on what the lines of the body write.
-use Rattle.std.proofs.Common.{◌≡◌, ◌≢◌, ◌+◌, ◌*◌, ◌<◌, ◌≤◌, ◌&&◌, ℕ, Bool, true, false, cond, eqb, ltb, not, codes, position, Option, Some, None, length, take, drop, List, [], ◌∷◌, ◌++◌, Result, Ok, Err, IfOk, IfErr, IsErrAnd, refl, sym, ap, subst, ◌∙◌, arith}
+use Rattle.std.proofs.Common.{◌≡◌, ◌≢◌, ◌+◌, ◌*◌, ◌<◌, ◌≤◌, ◌&&◌, ℕ, Bool, true, false, cond, eqb, ltb, not, codes, position, Option, Some, None, length, take, drop, List, [], ◌∷◌, ◌++◌, Result, Ok, Err, IfOk, refl, sym, ap, ◌∙◌, arith}
 use Rattle.std.proofs.lemmas.Bool.{ltb-true, lt-ltb, eqb-true, and_parts}
 use Rattle.sdmp_laws.specs.Order.{Order, degree}
 use Rattle.sdmp_laws.specs.Poly.{Term, norm, lm, terms, times, IsPoly}
@@ -8,7 +8,6 @@ use Rattle.sdmp_laws.specs.declared.Mode.{Mode}
 use Rattle.sdmp_laws.specs.declared.Mode.TheVariants.{Exact, Remainder}
 use Rattle.division_laws.specs.Outcome.{Outcome, OverZero, ByNoUnit, OverBound, OverTerms, HasQuotient, HasNoQuotient, HasRemainder, IsOutcome, division, outcome}
 use Rattle.division_laws.proofs.OutcomeLemmas.{one_outcome}
-use Rattle.std.specs.Str.{bytes_eq}
 use Rattle.std.proofs.lemmas.List.Quantifiers.{position-Some}
 use Rattle.text_laws.specs.Canonical.{text}
 use Rattle.text_laws.specs.Reading.{reading}
@@ -23,7 +22,7 @@ use Rattle.calc_session.specs.Commands.{command_of, takes}
 use Rattle.calc_session.specs.Body.{Form, Skip, Define, Ask, form_of, definition, definition_at, ask, asked, only_word, is_equals}
 use Rattle.calc_session.specs.Product.{is_degree_over, is_norm_over, product, IsProduct, IsProductRefused}
 use Rattle.calc_session.specs.Quotient.{IsUndivided}
-use Rattle.calc_session.specs.Session.{Setting, Defined, define, known, ◌>>=◌, polynomials_of, answer_of, answer_to, line_answer, reading_at, setting_in, in_line, at_column, text_line, product_in, division_in, outcome_lines, division_lines, body_answers}
+use Rattle.calc_session.specs.Session.{Setting, Defined, define, ◌>>=◌, polynomials_of, answer_of, answer_to, line_answer, reading_at, setting_in, in_line, at_column, text_line, product_in, division_in, outcome_lines, division_lines, body_answers}
 use Rattle.calc_session.specs.View.{Defines}
 use Rattle.calc_session.specs.declared.commands.Command.{Command}
 use Rattle.calc_session.specs.declared.commands.Command.TheVariants.{Show, Mul, Div, Rem}
