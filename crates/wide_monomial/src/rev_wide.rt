@@ -93,11 +93,8 @@ impl<const N: usize> Monomial for RevWide<N> {
         let layout = WideLayout::of(N);
         let guards = layout.guards >> layout.bits;
         let apart = other.word.wrapping_sub(self.word);
-        apart
-            .wrapping_sub(apart << layout.bits)
-            .wrapping_add(guards)
-            & guards
-            == guards
+        let steps = apart.wrapping_sub(apart << layout.bits);
+        steps.wrapping_add(guards) & guards == guards
     }
 
     fn over(self, divisor: Self) -> Self {
