@@ -8,7 +8,7 @@ from shared import pages
 # what isn't run, as it is shown, with the reason
 NOT_RUN = {
     './sdmp < SESSION': 'stands for any session; those that are shown are run',
-    'cd crates/sdmp_cli; rt try < SESSION': 'builds another program, which takes some minutes',
+    '(cd crates/sdmp_cli; rt try) < SESSION': 'builds another program, which takes some minutes',
     'rt ci': 'proves everything, which takes hours, and takes all processors',
     'a = x^1073741824-1, b = x-1, div a b': 'the quotient has 2^30 terms, which take 32 GiB and more',
 }
@@ -115,7 +115,7 @@ def commands_in_text(part, _, runner):
         return
     for number, text in found:
         for command in pages.spans(text):
-            first, *more = re.sub(r'^(\w+=\S+ )+', '', command).split()
+            first, *more = re.sub(r'^\(?(\w+=\S+ )*', '', command).split()
             if more and first.startswith(COMMANDS):
                 yield Asked(number, 'commands in text, which ended well', command, ask_status, runner, command)
 
