@@ -1,5 +1,5 @@
 -- Lemmas on what the lines of the body write.
-use Rattle.std.proofs.Common.{◌≡◌, ◌≢◌, ◌+◌, ◌*◌, ◌<◌, ◌≤◌, ◌&&◌, ℕ, Bool, true, false, cond, eqb, ltb, not, codes, position, Option, Some, None, length, take, drop, List, [], ◌∷◌, ◌++◌, Result, Ok, Err, IfOk, IfErr, IsErrAnd, refl, sym, ap, subst, ◌∙◌, arith}
+use Rattle.std.proofs.Common.{◌≡◌, ◌≢◌, ◌+◌, ◌*◌, ◌<◌, ◌≤◌, ◌&&◌, ℕ, Bool, true, false, cond, eqb, ltb, not, codes, position, Option, Some, None, length, take, drop, List, [], ◌∷◌, ◌++◌, Result, Ok, Err, IfOk, refl, sym, ap, ◌∙◌, arith}
 use Rattle.std.proofs.lemmas.Bool.{ltb-true, lt-ltb, eqb-true, and_parts}
 use Rattle.sdmp_laws.specs.Order.{Order, degree}
 use Rattle.sdmp_laws.specs.Poly.{Term, norm, lm, terms, times, IsPoly}
@@ -8,7 +8,6 @@ use Rattle.sdmp_laws.specs.declared.Mode.{Mode}
 use Rattle.sdmp_laws.specs.declared.Mode.TheVariants.{Exact, Remainder}
 use Rattle.division_laws.specs.Outcome.{Outcome, OverZero, ByNoUnit, OverBound, OverTerms, HasQuotient, HasNoQuotient, HasRemainder, IsOutcome, division, outcome}
 use Rattle.division_laws.proofs.OutcomeLemmas.{one_outcome}
-use Rattle.std.specs.Str.{bytes_eq}
 use Rattle.std.proofs.lemmas.List.Quantifiers.{position-Some}
 use Rattle.text_laws.specs.Canonical.{text}
 use Rattle.text_laws.specs.Reading.{reading}
@@ -19,13 +18,16 @@ use Rattle.poly_text.specs.Names.{is_name, is_reserved, is_among}
 use Rattle.calc_session.specs.Answers.{before, refused}
 use Rattle.calc_session.specs.Faults.{fault_line}
 use Rattle.calc_session.specs.Lines.{is_skipped}
-use Rattle.calc_session.specs.Body.{Form, Skip, Define, Show, Mul, Div, Rem, form_of, definition, definition_at, command, one, two, only_word, is_equals}
+use Rattle.calc_session.specs.Commands.{command_of, takes}
+use Rattle.calc_session.specs.Body.{Form, Skip, Define, Ask, form_of, definition, definition_at, ask, asked, only_word, is_equals}
 use Rattle.calc_session.specs.Product.{is_degree_over, is_norm_over, product, IsProduct, IsProductRefused}
 use Rattle.calc_session.specs.Quotient.{IsUndivided}
-use Rattle.calc_session.specs.Session.{Setting, Defined, define, known, ◌>>=◌, answer_of, answer_to, line_answer, reading_at, setting_in, in_line, at_column, text_line, product_in, division_in, outcome_lines, division_lines, body_answers}
+use Rattle.calc_session.specs.Session.{Setting, Defined, define, ◌>>=◌, polynomials_of, answer_of, answer_to, line_answer, reading_at, setting_in, in_line, at_column, text_line, product_in, division_in, outcome_lines, division_lines, body_answers}
 use Rattle.calc_session.specs.View.{Defines}
+use Rattle.calc_session.specs.declared.commands.Command.{Command}
+use Rattle.calc_session.specs.declared.commands.Command.TheVariants.{Show, Mul, Div, Rem}
 use Rattle.calc_session.specs.declared.fault.LineFault.{LineFault}
-use Rattle.calc_session.specs.declared.fault.LineFault.TheVariants.{DegreeBound, CoefficientBound, TermBound, ZeroDivisor, NotUnit, NoMemory, BadName, ReservedName, VariableName}
+use Rattle.calc_session.specs.declared.fault.LineFault.TheVariants.{DegreeBound, CoefficientBound, TermBound, ZeroDivisor, NotUnit, NoMemory, BadName, ReservedName, VariableName, ArgumentCount}
 
 pub bind_ok : {A B : Type 0} (r : Result A LineFault) (a : A) (f : A → Result B LineFault) → r ≡ Ok a → r >>= f ≡ f a
 bind_ok r a f e = ap (λ x. x >>= f) e
@@ -120,88 +122,42 @@ module _ (setting : Setting) where
   lines_err mode n p f g _ k is other = absurd is
 
 -- ---- commands
-module _ (setting : Setting) (defined : Defined) where
-  pub shown : (a piece : List ℕ) (f : List Term) → known (defined a) ≡ Ok f
-      → piece ≡ text setting.variables f ++ 10 ∷ [] → answer_of setting defined (Show a) ≡ Ok piece
+module _ (setting : Setting) where
+  pub show_ok : (piece : List ℕ) (f : List Term) → piece ≡ text setting.variables f ++ 10 ∷ [] → answer_of setting Show (f ∷ []) ≡ Ok piece
   unfolding text_line
-  shown a piece f e is = bind_ok (known (defined a)) f (λ f. Ok (text_line setting f)) e ∙ ap (λ p. Ok p) (sym is)
+  show_ok piece f written = ap (λ p. Ok p) (sym written)
 
-  abbrev multiplied : List Term → List Term → Result (List ℕ) LineFault
-  multiplied f g = product_in setting f g >>= (λ h. Ok (text_line setting h))
+  module _ (p : ℕ) (f g : List Term) (same : p ≡ setting.modulus) where
+    pub mul_ok : (piece : List ℕ) (h : List Term) → IsProduct setting.order setting.limit p f g h → piece ≡ text setting.variables h ++ 10 ∷ []
+        → answer_of setting Mul (f ∷ g ∷ []) ≡ Ok piece
+    unfolding text_line product_in
+    mul_ok piece h is written =
+        bind_ok (product_in setting f g) h (λ h. Ok (text_line setting h))
+        (ap (λ (q : ℕ). product setting.order setting.limit q f g) (sym same) ∙ product_ok setting.order setting.limit p f g h is)
+        ∙ ap (λ p. Ok p) (sym written)
 
-  abbrev multiplied_by : List ℕ → List Term → Result (List ℕ) LineFault
-  multiplied_by b f = known (defined b) >>= multiplied f
+    pub mul_err : (fault : LineFault) → IsProductRefused setting.limit p f g fault → fault ≢ NoMemory → answer_of setting Mul (f ∷ g ∷ []) ≡ Err fault
+    unfolding product_in
+    mul_err fault is other =
+        bind_err (product_in setting f g) fault (λ h. Ok (text_line setting h))
+        (ap (λ (q : ℕ). product setting.order setting.limit q f g) (sym same) ∙ product_err setting.order setting.limit p f g fault is other)
 
-  pub mul_ok : (a b piece : List ℕ) (f g h : List Term) (p : ℕ) → known (defined a) ≡ Ok f → known (defined b) ≡ Ok g → p ≡ setting.modulus
-      → IsProduct setting.order setting.limit p f g h → piece ≡ text setting.variables h ++ 10 ∷ [] → answer_of setting defined (Mul a b) ≡ Ok piece
-  unfolding text_line product_in
-  mul_ok a b piece f g h p ea eb ep is written =
-      bind_ok (known (defined a)) f (multiplied_by b) ea ∙ bind_ok (known (defined b)) g (multiplied f) eb
-      ∙ bind_ok (product_in setting f g) h (λ h. Ok (text_line setting h))
-      (ap (λ (q : ℕ). product setting.order setting.limit q f g) (sym ep) ∙ product_ok setting.order setting.limit p f g h is)
-      ∙ ap (λ p. Ok p) (sym written)
-
-  pub mul_err : (a b : List ℕ) (f g : List Term) (p : ℕ) (fault : LineFault) → known (defined a) ≡ Ok f → known (defined b) ≡ Ok g → p ≡ setting.modulus
-      → IsProductRefused setting.limit p f g fault → fault ≢ NoMemory → answer_of setting defined (Mul a b) ≡ Err fault
-  unfolding product_in
-  mul_err a b f g p fault ea eb ep is other =
-      bind_ok (known (defined a)) f (multiplied_by b) ea ∙ bind_ok (known (defined b)) g (multiplied f) eb
-      ∙ bind_err (product_in setting f g) fault (λ h. Ok (text_line setting h))
-      (ap (λ (q : ℕ). product setting.order setting.limit q f g) (sym ep) ∙ product_err setting.order setting.limit p f g fault is other)
-
-  pub mul_left : (a b : List ℕ) (fault : LineFault) → known (defined a) ≡ Err fault → answer_of setting defined (Mul a b) ≡ Err fault
-  mul_left a b fault e = bind_err (known (defined a)) fault (multiplied_by b) e
-
-  pub mul_right : (a b : List ℕ) (f : List Term) (fault : LineFault) → known (defined a) ≡ Ok f → known (defined b) ≡ Err fault
-      → answer_of setting defined (Mul a b) ≡ Err fault
-  mul_right a b f fault ea eb = bind_ok (known (defined a)) f (multiplied_by b) ea ∙ bind_err (known (defined b)) fault (multiplied f) eb
-
-  -- ---- commands that divide
-  module _ (mode : Mode) (a b : List ℕ) where
-    -- what the division of what the names stand for writes
-    abbrev divided : Result (List ℕ) LineFault
-    divided = do
-      f ← known (defined a)
-      g ← known (defined b)
-      division_lines setting mode f g
-
-    abbrev divided_by : List Term → Result (List ℕ) LineFault
-    divided_by f = known (defined b) >>= division_lines setting mode f
-
-    pub divided_left : (fault : LineFault) → known (defined a) ≡ Err fault → divided ≡ Err fault
-    divided_left fault e = bind_err (known (defined a)) fault divided_by e
-
-    pub divided_right : (f : List Term) (fault : LineFault) → known (defined a) ≡ Ok f → known (defined b) ≡ Err fault → divided ≡ Err fault
-    divided_right f fault ea eb = bind_ok (known (defined a)) f divided_by ea ∙ bind_err (known (defined b)) fault (division_lines setting mode f) eb
-
-    divided_both : (f g : List Term) → known (defined a) ≡ Ok f → known (defined b) ≡ Ok g → divided ≡ division_lines setting mode f g
-    divided_both f g ea eb = bind_ok (known (defined a)) f divided_by ea ∙ bind_ok (known (defined b)) g (division_lines setting mode f) eb
-
-    pub divided_err : (n p : ℕ) (f g : List Term) (fault : LineFault) → known (defined a) ≡ Ok f → known (defined b) ≡ Ok g → ArePolynomials setting n p f g
-        → IsUndivided (division mode setting.order n p f g) fault → fault ≢ NoMemory → divided ≡ Err fault
-    divided_err n p f g fault ea eb k is other = divided_both f g ea eb ∙ lines_err setting mode n p f g fault k is other
-
-    divided_ok : (n p : ℕ) (f g : List Term) (o : Outcome) → known (defined a) ≡ Ok f → known (defined b) ≡ Ok g → ArePolynomials setting n p f g
-        → IsOutcome (division mode setting.order n p f g) o → divided ≡ outcome_lines setting o
-    divided_ok n p f g o ea eb k is = divided_both f g ea eb ∙ lines_of setting mode n p f g o k is
-
-  module _ (n p : ℕ) (a b piece : List ℕ) where
-    pub div_ok : (f g q : List Term) → known (defined a) ≡ Ok f → known (defined b) ≡ Ok g → ArePolynomials setting n p f g
-        → IsOutcome (division Exact setting.order n p f g) (HasQuotient q) → piece ≡ text setting.variables q ++ 10 ∷ []
-        → answer_of setting defined (Div a b) ≡ Ok piece
+  module _ (n p : ℕ) (f g : List Term) (both : ArePolynomials setting n p f g) where
+    pub div_ok : (piece : List ℕ) (q : List Term) → IsOutcome (division Exact setting.order n p f g) (HasQuotient q) → piece ≡ text setting.variables q ++ 10 ∷ []
+        → answer_of setting Div (f ∷ g ∷ []) ≡ Ok piece
     unfolding text_line
-    div_ok f g q ea eb k is written = divided_ok Exact a b n p f g (HasQuotient q) ea eb k is ∙ ap (λ p. Ok p) (sym written)
+    div_ok piece q is written = lines_of setting Exact n p f g (HasQuotient q) both is ∙ ap (λ p. Ok p) (sym written)
 
-    pub div_none : (f g : List Term) → known (defined a) ≡ Ok f → known (defined b) ≡ Ok g → ArePolynomials setting n p f g
-        → IsOutcome (division Exact setting.order n p f g) HasNoQuotient → piece ≡ codes "none\n" → answer_of setting defined (Div a b) ≡ Ok piece
-    div_none f g ea eb k is written = divided_ok Exact a b n p f g HasNoQuotient ea eb k is ∙ ap (λ p. Ok p) (sym written)
+    pub div_none : (piece : List ℕ) → IsOutcome (division Exact setting.order n p f g) HasNoQuotient → piece ≡ codes "none\n" → answer_of setting Div (f ∷ g ∷ []) ≡ Ok piece
+    div_none piece is written = lines_of setting Exact n p f g HasNoQuotient both is ∙ ap (λ p. Ok p) (sym written)
 
-    pub rem_ok : (f g q r : List Term) → known (defined a) ≡ Ok f → known (defined b) ≡ Ok g → ArePolynomials setting n p f g
-        → IsOutcome (division Remainder setting.order n p f g) (HasRemainder q r)
-        → piece ≡ (text setting.variables q ++ 10 ∷ []) ++ (text setting.variables r ++ 10 ∷ []) → answer_of setting defined (Rem a b) ≡ Ok piece
+    pub rem_ok : (piece : List ℕ) (q r : List Term) → IsOutcome (division Remainder setting.order n p f g) (HasRemainder q r)
+        → piece ≡ (text setting.variables q ++ 10 ∷ []) ++ (text setting.variables r ++ 10 ∷ []) → answer_of setting Rem (f ∷ g ∷ []) ≡ Ok piece
     unfolding text_line
-    rem_ok f g q r ea eb k is written = divided_ok Remainder a b n p f g (HasRemainder q r) ea eb k is ∙ ap (λ p. Ok p) (sym written)
+    rem_ok piece q r is written = lines_of setting Remainder n p f g (HasRemainder q r) both is ∙ ap (λ p. Ok p) (sym written)
 
+-- ---- lines
+module _ (setting : Setting) (defined : Defined) where
   -- ---- a line, by what it says
   module _ (line : List ℕ) where
     abbrev said : Result Form LineFault
@@ -230,33 +186,26 @@ module _ (setting : Setting) (defined : Defined) where
         bind_ok said (Define name start) (line_answer setting defined line) e
         ∙ bind_err (reading_at setting start line) fault (λ f. Ok (define name f defined, [])) h
 
-    -- the line is a command
-    abbrev pub IsCommand : Form → Type 0
-    IsCommand Skip = ⊥
-    IsCommand (Define name start) = ⊥
-    IsCommand _ = Unit {0}
+    -- the line asks a command with these names
+    module _ (command : Command) (names : List (List ℕ)) (is : said ≡ Ok (Ask command names)) where
+      abbrev answered : List (List Term) → Result (Defined × List ℕ) LineFault
+      answered fs = answer_of setting command fs >>= (λ piece. Ok (defined, piece))
 
-    by_command : (form : Form) → IsCommand form → line_answer setting defined line form ≡ (answer_of setting defined form >>= (λ piece. Ok (defined, piece)))
-    by_command Skip h = absurd h
-    by_command (Define name start) h = absurd h
-    by_command (Show a) h = refl
-    by_command (Mul a b) h = refl
-    by_command (Div a b) h = refl
-    by_command (Rem a b) h = refl
+      pub to_unknown : (fault : LineFault) → polynomials_of defined names ≡ Err fault → answer_to setting defined line ≡ Err fault
+      unfolding answer_to
+      to_unknown fault e = bind_ok said (Ask command names) (line_answer setting defined line) is ∙ bind_err (polynomials_of defined names) fault answered e
 
-    pub to_piece : (form : Form) (piece : List ℕ) → IsCommand form → said ≡ Ok form → answer_of setting defined form ≡ Ok piece
-        → answer_to setting defined line ≡ Ok (defined, piece)
-    unfolding answer_to
-    to_piece form piece command e h =
-        bind_ok said form (line_answer setting defined line) e ∙ by_command form command
-        ∙ bind_ok (answer_of setting defined form) piece (λ piece. Ok (defined, piece)) h
+      known_names : (fs : List (List Term)) → polynomials_of defined names ≡ Ok fs → answer_to setting defined line ≡ answered fs
+      unfolding answer_to
+      known_names fs e = bind_ok said (Ask command names) (line_answer setting defined line) is ∙ bind_ok (polynomials_of defined names) fs answered e
 
-    pub to_fault : (form : Form) (fault : LineFault) → IsCommand form → said ≡ Ok form → answer_of setting defined form ≡ Err fault
-        → answer_to setting defined line ≡ Err fault
-    unfolding answer_to
-    to_fault form fault command e h =
-        bind_ok said form (line_answer setting defined line) e ∙ by_command form command
-        ∙ bind_err (answer_of setting defined form) fault (λ piece. Ok (defined, piece)) h
+      pub to_piece : (fs : List (List Term)) (piece : List ℕ) → polynomials_of defined names ≡ Ok fs → answer_of setting command fs ≡ Ok piece
+          → answer_to setting defined line ≡ Ok (defined, piece)
+      to_piece fs piece e h = known_names fs e ∙ bind_ok (answer_of setting command fs) piece (λ piece. Ok (defined, piece)) h
+
+      pub to_fault : (fs : List (List Term)) (fault : LineFault) → polynomials_of defined names ≡ Ok fs → answer_of setting command fs ≡ Err fault
+          → answer_to setting defined line ≡ Err fault
+      to_fault fs fault e h = known_names fs e ∙ bind_err (answer_of setting command fs) fault (λ piece. Ok (defined, piece)) h
 
 -- ---- texts in a line
 pub read_ok : (ord : Order) (names : List (List ℕ)) (p lim start : ℕ) (line bytes : List ℕ) (f : List Term) → bytes ≡ drop start line
@@ -287,36 +236,23 @@ defined_at : (variables : List (List ℕ)) (word name : List ℕ) (at start : �
 unfolding definition
 defined_at variables word name at start h = defined_where variables word name at start (is_name word) (is_reserved word) (is_among word variables) h
 
-one_defines_not : (form : List ℕ → Form) (words : List (List ℕ)) (name : List ℕ) (start : ℕ) → ((a : List ℕ) → form a ≢ Define name start) → one form words ≢ Ok (Define name start)
-one_defines_not form [] name start h e = absurd cc
-one_defines_not form (a ∷ []) name start h e = h a cc
-one_defines_not form (a ∷ b ∷ words) name start h e = absurd cc
+ask_defines_not : (names : List (List ℕ)) (o : Option Command) (name : List ℕ) (start : ℕ) → ask names o ≢ Ok (Define name start)
+ask_defines_not names None name start = λ e. absurd cc
+ask_defines_not names (Some command) name start = by (takes command (length names))
+  where
+    by : (b : Bool) → cond b (Ok (Ask command names)) (Err ArgumentCount) ≢ Ok (Define name start)
+    by true = λ e. absurd cc
+    by false = λ e. absurd cc
 
-two_defines_not : (form : List ℕ → List ℕ → Form) (words : List (List ℕ)) (name : List ℕ) (start : ℕ) → ((a b : List ℕ) → form a b ≢ Define name start)
-    → two form words ≢ Ok (Define name start)
-two_defines_not form [] name start h e = absurd cc
-two_defines_not form (a ∷ []) name start h e = absurd cc
-two_defines_not form (a ∷ b ∷ []) name start h e = h a b cc
-two_defines_not form (a ∷ b ∷ c ∷ words) name start h e = absurd cc
-
-none_of : (r s : Result Form LineFault) (b : Bool) (form : Form) → r ≢ Ok form → s ≢ Ok form → cond b r s ≢ Ok form
-none_of r s true form hr hs = hr
-none_of r s false form hr hs = hs
-
-command_defines_not : (words : List (List ℕ)) (name : List ℕ) (start : ℕ) → command words ≢ Ok (Define name start)
-unfolding command
-command_defines_not [] name start = λ e. absurd cc
-command_defines_not (first ∷ words) name start =
-    none_of _ _ (bytes_eq first (codes "show")) (Define name start) (one_defines_not Show words name start (λ a e. absurd cc))
-    (none_of _ _ (bytes_eq first (codes "mul")) (Define name start) (two_defines_not Mul words name start (λ a b e. absurd cc))
-    (none_of _ _ (bytes_eq first (codes "div")) (Define name start) (two_defines_not Div words name start (λ a b e. absurd cc))
-    (none_of _ _ (bytes_eq first (codes "rem")) (Define name start) (two_defines_not Rem words name start (λ a b e. absurd cc)) (λ e. absurd cc))))
+asked_defines_not : (words : List (List ℕ)) (name : List ℕ) (start : ℕ) → asked words ≢ Ok (Define name start)
+asked_defines_not [] name start = λ e. absurd cc
+asked_defines_not (word ∷ names) name start = ask_defines_not names (command_of word) name start
 
 begins_where : (variables : List (List ℕ)) (line name : List ℕ) (start : ℕ) (o : Option ℕ) → ((i : ℕ) → o ≡ Some i → i < length line)
     → definition_at variables line o ≡ Ok (Define name start) → start ≤ length line
 begins_where variables line name start (Some i) h e =
     omega (arith, h i refl, defined_at variables (only_word (words_of (take i line))) name (i + 1) start e)
-begins_where variables line name start None h e = absurd (command_defines_not (words_of line) name start e)
+begins_where variables line name start None h e = absurd (asked_defines_not (words_of line) name start e)
 
 begins_unless : (variables : List (List ℕ)) (line name : List ℕ) (start : ℕ) (b : Bool) (r : Result Form LineFault) → (r ≡ Ok (Define name start) → start ≤ length line)
     → cond b (Ok Skip) r ≡ Ok (Define name start) → start ≤ length line

@@ -11,7 +11,8 @@ use Rattle.calc_session.specs.Answers.{Answers, refused}
 use Rattle.calc_session.specs.Lines.{cut_lines, without_return, effective}
 use Rattle.calc_session.specs.Faults.{fault_words, fault_column}
 use Rattle.calc_session.specs.Header.{modulus_of}
-use Rattle.calc_session.specs.Body.{definition, command}
+use Rattle.calc_session.specs.Commands.{command_of}
+use Rattle.calc_session.specs.Body.{definition}
 use Rattle.calc_session.specs.Session.{Monomials, answers as answers_in, vars_answers, ring_answers, body_answers, answer_to, reading_at}
 
 abbrev packed : Monomials
@@ -43,42 +44,42 @@ abbrev third : List ℕ → Answers
 third line = answers (codes "vars x\r\nring Z\r\n" ++ line)
 
 variable_defined : third (codes "x = 1") ≡ refused (codes "line 3: variable name\n")
-unfolding answers_in digits fault_words fault_column cut_lines without_return words_of word_fault fault_behind effective vars_answers ring_answers modulus_of definition command answer_to body_answers
+unfolding answers_in digits fault_words fault_column cut_lines without_return words_of word_fault fault_behind effective vars_answers ring_answers modulus_of definition command_of answer_to body_answers
 variable_defined = refl
 
 reserved_defined : third (codes "mul = 1") ≡ refused (codes "line 3: reserved name\n")
-unfolding answers_in digits fault_words fault_column cut_lines without_return words_of word_fault fault_behind effective vars_answers ring_answers modulus_of definition command answer_to body_answers
+unfolding answers_in digits fault_words fault_column cut_lines without_return words_of word_fault fault_behind effective vars_answers ring_answers modulus_of definition command_of answer_to body_answers
 reserved_defined = refl
 
 no_name : third (codes "= 1") ≡ refused (codes "line 3: bad name\n")
-unfolding answers_in digits fault_words fault_column cut_lines without_return words_of word_fault fault_behind effective vars_answers ring_answers modulus_of definition command answer_to body_answers
+unfolding answers_in digits fault_words fault_column cut_lines without_return words_of word_fault fault_behind effective vars_answers ring_answers modulus_of definition command_of answer_to body_answers
 no_name = refl
 
 no_argument : third (codes "show") ≡ refused (codes "line 3: argument count\n")
-unfolding answers_in digits fault_words fault_column cut_lines without_return words_of word_fault fault_behind effective vars_answers ring_answers modulus_of definition command answer_to body_answers
+unfolding answers_in digits fault_words fault_column cut_lines without_return words_of word_fault fault_behind effective vars_answers ring_answers modulus_of definition command_of answer_to body_answers
 no_argument = refl
 
 late_header : third (codes "vars y") ≡ refused (codes "line 3: unknown command\n")
-unfolding answers_in digits fault_words fault_column cut_lines without_return words_of word_fault fault_behind effective vars_answers ring_answers modulus_of definition command answer_to body_answers
+unfolding answers_in digits fault_words fault_column cut_lines without_return words_of word_fault fault_behind effective vars_answers ring_answers modulus_of definition command_of answer_to body_answers
 late_header = refl
 
 not_defined : third (codes "show x") ≡ refused (codes "line 3: unknown name\n")
-unfolding answers_in digits fault_words fault_column cut_lines without_return words_of word_fault fault_behind effective vars_answers ring_answers modulus_of definition command answer_to body_answers
+unfolding answers_in digits fault_words fault_column cut_lines without_return words_of word_fault fault_behind effective vars_answers ring_answers modulus_of definition command_of answer_to body_answers
 not_defined = refl
 
 no_text : third (codes "a =") ≡ refused (codes "line 3: syntax at 4\n")
-unfolding answers_in digits fault_words fault_column cut_lines without_return words_of word_fault fault_behind effective vars_answers ring_answers modulus_of definition command answer_to body_answers reading_at denotes class_of
+unfolding answers_in digits fault_words fault_column cut_lines without_return words_of word_fault fault_behind effective vars_answers ring_answers modulus_of definition command_of answer_to body_answers reading_at denotes class_of
 no_text = refl
 
 number_behind : third (codes "a = x*2") ≡ refused (codes "line 3: syntax at 7\n")
-unfolding answers_in digits fault_words fault_column cut_lines without_return words_of word_fault fault_behind effective vars_answers ring_answers modulus_of definition command answer_to body_answers reading_at denotes class_of
+unfolding answers_in digits fault_words fault_column cut_lines without_return words_of word_fault fault_behind effective vars_answers ring_answers modulus_of definition command_of answer_to body_answers reading_at denotes class_of
 number_behind = refl
 
 two_signs : third (codes "a = +-x") ≡ refused (codes "line 3: syntax at 6\n")
-unfolding answers_in digits fault_words fault_column cut_lines without_return words_of word_fault fault_behind effective vars_answers ring_answers modulus_of definition command answer_to body_answers reading_at denotes class_of
+unfolding answers_in digits fault_words fault_column cut_lines without_return words_of word_fault fault_behind effective vars_answers ring_answers modulus_of definition command_of answer_to body_answers reading_at denotes class_of
 two_signs = refl
 
 -- a second carriage return is a byte of the text
 two_returns : third (codes "a=1\r\r") ≡ refused (codes "line 3: syntax at 4\n")
-unfolding answers_in digits fault_words fault_column cut_lines without_return words_of word_fault fault_behind effective vars_answers ring_answers modulus_of definition command answer_to body_answers reading_at denotes class_of
+unfolding answers_in digits fault_words fault_column cut_lines without_return words_of word_fault fault_behind effective vars_answers ring_answers modulus_of definition command_of answer_to body_answers reading_at denotes class_of
 two_returns = refl

@@ -2,6 +2,7 @@ pub mod Lines
 pub mod Answers
 pub mod Faults
 pub mod Header
+pub mod Commands
 pub mod Body
 pub mod Product
 pub mod Quotient

@@ -14,12 +14,14 @@ use Rattle.text_laws.specs.declared.TextFault.TheVariants as text_fault
 use Rattle.poly_text.specs.Words.{words_of}
 use Rattle.calc_session.specs.Lines.{lines, effective}
 use Rattle.calc_session.specs.Header.{vars_of, ring_of, characteristic_of}
-use Rattle.calc_session.specs.Body.{Form, Define, Show, Mul, Div, Rem, form_of}
+use Rattle.calc_session.specs.Body.{Form, Skip, Define, Ask, form_of}
 use Rattle.calc_session.specs.Product.{product}
 use Rattle.calc_session.specs.Faults.{fault_line}
 use Rattle.calc_session.specs.Answers.{Answers, before, done, refused}
+use Rattle.calc_session.specs.declared.commands.Command.{Command}
+use Rattle.calc_session.specs.declared.commands.Command.TheVariants.{Show, Mul, Div, Rem}
 use Rattle.calc_session.specs.declared.fault.LineFault.{LineFault}
-use Rattle.calc_session.specs.declared.fault.LineFault.TheVariants.{VarsExpected, RingExpected, UnknownName, Syntax, UnknownNameAt, DegreeBoundAt, CoefficientBoundAt, CoefficientBound, TermBound, ZeroDivisor, NotUnit, NoMemory}
+use Rattle.calc_session.specs.declared.fault.LineFault.TheVariants.{VarsExpected, RingExpected, ArgumentCount, UnknownName, Syntax, UnknownNameAt, DegreeBoundAt, CoefficientBoundAt, CoefficientBound, TermBound, ZeroDivisor, NotUnit, NoMemory}
 
 -- the monomials of sessions: their order, and the greatest degree of one in so many variables
 pub record Monomials : Type 0 where
@@ -99,33 +101,33 @@ outcome_lines setting (HasRemainder q r) = Ok (text_line setting q ++ text_line 
 unfoldable pub division_lines : Setting → Mode → List Term → List Term → Result (List ℕ) LineFault
 division_lines setting mode f g = outcome_lines setting (outcome (division_in setting mode f g))
 
--- what a line writes
-abbrev pub answer_of : Setting → Defined → Form → Result (List ℕ) LineFault
-answer_of setting defined (Show a) = do
-  f ← known (defined a)
-  Ok (text_line setting f)
-answer_of setting defined (Mul a b) = do
-  f ← known (defined a)
-  g ← known (defined b)
+-- the polynomials that the names stand for, in order, or that some name stands for none
+abbrev pub polynomials_of : Defined → List (List ℕ) → Result (List (List Term)) LineFault
+polynomials_of defined [] = Ok []
+polynomials_of defined (name ∷ names) = do
+  f ← known (defined name)
+  fs ← polynomials_of defined names
+  Ok (f ∷ fs)
+
+-- what a command writes of polynomials
+abbrev pub answer_of : Setting → Command → List (List Term) → Result (List ℕ) LineFault
+answer_of setting Show (f ∷ []) = Ok (text_line setting f)
+answer_of setting Mul (f ∷ g ∷ []) = do
   h ← product_in setting f g
   Ok (text_line setting h)
-answer_of setting defined (Div a b) = do
-  f ← known (defined a)
-  g ← known (defined b)
-  division_lines setting Exact f g
-answer_of setting defined (Rem a b) = do
-  f ← known (defined a)
-  g ← known (defined b)
-  division_lines setting Remainder f g
-answer_of setting defined _ = Ok []
+answer_of setting Div (f ∷ g ∷ []) = division_lines setting Exact f g
+answer_of setting Rem (f ∷ g ∷ []) = division_lines setting Remainder f g
+answer_of setting _ _ = Err ArgumentCount
 
 -- what a line makes of the definitions, and what it writes
 abbrev pub line_answer : Setting → Defined → List ℕ → Form → Result (Defined × List ℕ) LineFault
+line_answer setting defined line Skip = Ok (defined, [])
 line_answer setting defined line (Define name start) = do
   f ← reading_at setting start line
   Ok (define name f defined, [])
-line_answer setting defined line form = do
-  piece ← answer_of setting defined form
+line_answer setting defined line (Ask command names) = do
+  fs ← polynomials_of defined names
+  piece ← answer_of setting command fs
   Ok (defined, piece)
 
 -- the same of the line as it stands

@@ -1,22 +1,20 @@
 //! The lines of the body.
-ghost use Rattle.std.specs.Prelude.{◌≡◌, ◌<◌, ◌∷◌, [], Ok, IfSome, length, map, position, string_bytes, MatchOption};
+ghost use Rattle.std.specs.Prelude.{◌≡◌, ◌<◌, IfSome, length, position};
 ghost use Rattle.poly_text.specs.Words.{words_of};
-ghost use Rattle.calc_session.specs.Body.{form_of, command, definition, only_word, is_equals, IsNotOne, IsNotTwo};
+ghost use Rattle.calc_session.specs.Body.{form_of, asked, definition, only_word, is_equals};
 ghost use Rattle.calc_session.specs.Says.{says};
 
+use crate::commands::Command;
 use crate::effective::is_skip;
 use crate::fault::LineFault;
-use poly_text::{Names, is_name, is_reserved, split_word, stands_in};
+use poly_text::{Names, count_words, is_name, is_reserved, split_word, stands_in};
 
-/// What a line says.
+/// What a line says: nothing; a definition, whose polynomial begins at the place `start`; or a command and the words behind it, which are its names.
 #[derive(Clone, Copy, Debug)]
 pub enum Line<'a> {
     Skip,
     Define { name: &'a [u8], start: usize },
-    Show { a: &'a [u8] },
-    Mul { a: &'a [u8], b: &'a [u8] },
-    Div { a: &'a [u8], b: &'a [u8] },
-    Rem { a: &'a [u8], b: &'a [u8] },
+    Ask { command: Command, names: &'a [u8] },
 }
 
 /// What a line of the body says, where these are the variables.
@@ -72,57 +70,17 @@ fn sole_word(bytes: &[u8]) -> &[u8]
     word
 }
 
-#[tactic(auto, unfolding(crate::specs::Body::command))]
 fn parse_command(line: &[u8]) -> Result<Line<'_>, LineFault>
-    ensures { says result ≡ command (words_of line.now) }
+    ensures { says result ≡ asked (words_of line.now) }
 {
-    let Some((first, rest)) = split_word(line) else {
+    let Some((word, names)) = split_word(line) else {
         return Ok(Line::Skip);
     };
-    if first == b"show".as_slice() {
-        let Some(a) = one_word(rest) else {
-            return Err(LineFault::ArgumentCount);
-        };
-        return Ok(Line::Show { a });
+    let Some(command) = Command::of_word(word) else {
+        return Err(LineFault::UnknownCommand);
+    };
+    if !command.takes(count_words(names)) {
+        return Err(LineFault::ArgumentCount);
     }
-    if first == b"mul".as_slice() {
-        let Some((a, b)) = two_words(rest) else {
-            return Err(LineFault::ArgumentCount);
-        };
-        return Ok(Line::Mul { a, b });
-    }
-    if first == b"div".as_slice() {
-        let Some((a, b)) = two_words(rest) else {
-            return Err(LineFault::ArgumentCount);
-        };
-        return Ok(Line::Div { a, b });
-    }
-    if first == b"rem".as_slice() {
-        let Some((a, b)) = two_words(rest) else {
-            return Err(LineFault::ArgumentCount);
-        };
-        return Ok(Line::Rem { a, b });
-    }
-    Err(LineFault::UnknownCommand)
-}
-
-fn one_word(rest: &[u8]) -> Option<&[u8]>
-    ensures { MatchOption result (IsNotOne (words_of rest.now)) (λ a. words_of rest.now ≡ a.now ∷ []) }
-{
-    let (a, rest) = split_word(rest)?;
-    if split_word(rest).is_some() {
-        return None;
-    }
-    Some(a)
-}
-
-fn two_words(rest: &[u8]) -> Option<(&[u8], &[u8])>
-    ensures { MatchOption result (IsNotTwo (words_of rest.now)) (λ p. words_of rest.now ≡ p.0.now ∷ p.1.now ∷ []) }
-{
-    let (a, rest) = split_word(rest)?;
-    let (b, rest) = split_word(rest)?;
-    if split_word(rest).is_some() {
-        return None;
-    }
-    Some((a, b))
+    Ok(Line::Ask { command, names })
 }

@@ -2,6 +2,7 @@
 #![tactic(auto)]
 
 mod body;
+mod commands;
 mod definitions;
 mod demo;
 mod effective;
@@ -17,6 +18,7 @@ mod vars;
 mod writing;
 
 pub use body::{Line, parse_line};
+pub use commands::Command;
 pub use demo::demo_input;
 pub use ending::Ending;
 pub use fault::LineFault;

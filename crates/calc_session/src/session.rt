@@ -1,6 +1,7 @@
 //! The body of a session.
 ghost use Rattle.std.specs.Prelude.{◌≡◌, ◌≢◌, ◌+◌, ◌≤◌, ◌<◌, [], length, map, All, Ok, Err, IfOk, IfErr, MatchResult, OnOk};
-ghost use Rattle.calc_session.specs.Session.{at_column, known, reading_at, setting_in};
+ghost use Rattle.poly_text.specs.Words.{words_of};
+ghost use Rattle.calc_session.specs.Session.{at_column, known, polynomials_of, reading_at, setting_in};
 ghost use Rattle.calc_session.specs.View.{held, plain, place_in, Defines, IsSettingOf};
 
 use crate::definitions::Definitions;
@@ -8,7 +9,7 @@ use crate::fault::LineFault;
 use canonical_terms::Poly;
 use coeff_ring::CoeffRing;
 use packed_monomial::Monomial;
-use poly_text::{Names, read_poly};
+use poly_text::{Names, read_poly, split_word};
 use std::alloc::Global;
 use std::marker::Model;
 use text_laws::TextFault;
@@ -71,6 +72,24 @@ impl<R: CoeffRing, M: Monomial> BodySession<R, M> {
         ensures modulus { IfOk result (λ f. f.now.modulus ≡ self.now.setting.modulus) }
     {
         self.defined.look_up(name)
+    }
+
+    /// The polynomials that the words stand for, in order, or that one of them stands for none.
+    pub fn polynomials(&self, alloc: Global, names: &[u8]) -> Result<Vec<&Poly<R, M>>, LineFault>
+        ensures known { IfOk result (λ fs. polynomials_of (held self.now.defined) (words_of names.now) ≡ Ok (map (λ f. f.now.list) fs.items)) }
+        ensures unknown { IfErr result (λ fault. fault ≢ LineFault.NoMemory → polynomials_of (held self.now.defined) (words_of names.now) ≡ Err fault) }
+        ensures modulus { IfOk result (λ fs. All (λ f. f.now.modulus ≡ self.now.setting.modulus) fs.items) }
+    {
+        let mut found = Vec::new(alloc);
+        let mut rest = names;
+        while let Some((name, later)) = split_word(rest) {
+            let polynomial = self.look_up(name)?;
+            if found.push(polynomial).is_err() {
+                return Err(LineFault::NoMemory);
+            }
+            rest = later;
+        }
+        Ok(found)
     }
 
     /// Reads the polynomial whose text begins at the place `start` of the line, and lets the name stand for it. Where the text has a fault, or memory is wanting, nothing is defined.

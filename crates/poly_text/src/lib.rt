@@ -16,5 +16,5 @@ mod write;
 pub use names::{LONGEST_NAME, MOST_NAMES, Names, NamesFault, is_name, is_reserved, stands_in};
 pub use read::read_poly;
 pub use text_laws::TextFault;
-pub use words::split_word;
+pub use words::{count_words, split_word};
 pub use write::write_poly;

@@ -5,7 +5,7 @@ ghost use Rattle.std.specs.Str.{bytes_eq};
 ghost use Rattle.poly_text.specs.Words.{words_of};
 ghost use Rattle.poly_text.specs.Names.{IsNameList, names_of, word_fault, is_name as is_name_word, is_reserved as is_reserved_word, is_among, is_letter as is_letter_byte, is_digit};
 
-use crate::words::split_word;
+use crate::words::{count_words, split_word};
 use packed_monomial::LAYOUTS;
 use std::alloc::{AllocError, Global};
 use std::marker::Model;
@@ -93,19 +93,6 @@ impl Names {
     {
         &self.words
     }
-}
-
-/// How many words there are.
-fn count_words(words: &[u8]) -> usize
-    ensures { result ≡ length (words_of words.now) }
-{
-    let mut count = 0;
-    let mut rest = words;
-    while let Some((_, later)) = split_word(rest) {
-        count += 1;
-        rest = later;
-    }
-    count
 }
 
 /// Puts the word behind the names.

@@ -48,3 +48,16 @@ pub fn split_word(bytes: &[u8]) -> Option<(&[u8], &[u8])>
     let end = word_end(rest);
     Some((&rest[..end], &rest[end..]))
 }
+
+/// How many words there are.
+pub fn count_words(words: &[u8]) -> usize
+    ensures { result ≡ length (words_of words.now) }
+{
+    let mut count = 0;
+    let mut rest = words;
+    while let Some((_, later)) = split_word(rest) {
+        count += 1;
+        rest = later;
+    }
+    count
+}

@@ -1,5 +1,5 @@
 -- Lemmas on what a session makes, and on what has been counted of it.
-use Rattle.std.proofs.Common.{◌≡◌, ◌+◌, ◌<◌, ◌≤◌, ℕ, Bool, true, false, cond, leb, min, List, [], ◌∷◌, ◌++◌, length, Option, Some, None, Result, Ok, Err, refl, sym, ap, subst, ◌∙◌, arith, append-nil, append_assoc}
+use Rattle.std.proofs.Common.{◌≡◌, ◌+◌, ◌<◌, ◌≤◌, ℕ, Bool, true, false, cond, leb, min, List, [], ◌∷◌, ◌++◌, length, Option, Some, None, Result, Ok, Err, OnOk, refl, sym, ap, subst, ◌∙◌, arith, append-nil, append_assoc}
 use Rattle.std.proofs.lemmas.List.Sums.{sum_by-append}
 use Rattle.sdmp_laws.specs.Order.{Order}
 use Rattle.sdmp_laws.specs.Poly.{Term}
@@ -11,17 +11,19 @@ use Rattle.division_laws.specs.Outcome.{division}
 use Rattle.whole_laws.specs.Notes.{Product}
 use Rattle.global_heap.specs.Names.{notes_total}
 use Rattle.calc_session.specs.Lines.{lines}
-use Rattle.calc_session.specs.Body.{Form, Mul, Div, Rem, form_of}
+use Rattle.calc_session.specs.Body.{Form, Ask, form_of}
 use Rattle.calc_session.specs.Heads.{Head, head_of}
-use Rattle.calc_session.specs.Session.{Monomials, Setting, Defined, setting_in, setting_of, undefined, known, answer_to}
+use Rattle.calc_session.specs.Session.{Monomials, Setting, Defined, setting_in, setting_of, undefined, polynomials_of, division_in, answer_to}
 use Rattle.calc_session.specs.View.{Body, IsSettingOf, held}
+use Rattle.calc_session.specs.declared.commands.Command.{Command}
+use Rattle.calc_session.specs.declared.commands.Command.TheVariants.{Mul, Div, Rem}
 use Rattle.calc_session.specs.declared.fault.LineFault.{LineFault}
 use Rattle.calc_session.proofs.EffectiveLemmas.{no_lines}
 use Rattle.calc_session.specs.Demo.{demo_input}
 use Rattle.sdmp_words.specs.declared.settings.Settings.{Settings}
 use Rattle.sdmp_top.specs.Monomials.{packed}
 use Rattle.sdmp_top.specs.Outside.{last_count}
-use Rattle.sdmp_top.specs.Work.{Calculation, MakesProduct, MakesDivision, by_fewer_rows, product_within, of_both, calculations_of, calculations_said, line_calculations, body_calculations, calculations_by, head_calculations, calculations, Work, work_of, total, IsRaised, IsTallied, IsTalliedUpTo, IsTalliedRun, input_of}
+use Rattle.sdmp_top.specs.Work.{Calculation, MakesProduct, MakesDivision, by_fewer_rows, calculations_of, calculations_asked, calculations_said, line_calculations, body_calculations, calculations_by, head_calculations, calculations, Work, work_of, total, IsRaised, IsTallied, IsTalliedUpTo, IsTalliedRun, input_of}
 
 -- ---- counts
 raised_none : (n : ℕ) → IsRaised 0 n n
@@ -151,37 +153,37 @@ asked_of monomials session ord names lim p q lines e o l m =
 
 -- ---- commands
 pub line_makes : (setting : Setting) (defined : Defined) (line : List ℕ) (form : Form) → form_of setting.variables line ≡ Ok form
-    → line_calculations setting defined line ≡ calculations_of setting defined form
+    → line_calculations setting defined line ≡ calculations_said setting defined (Ok form)
 unfolding line_calculations
 line_makes setting defined line form e = ap (calculations_said setting defined) e
 
-known_is : (o : Option (List Term)) (f : List Term) → known o ≡ Ok f → o ≡ Some f
-known_is (Some g) f e = cc
-known_is None f e = absurd cc
+-- what a command makes of polynomials is what the line makes that asks it
+pub tallied_by : {T : Type 0} (r : Result T LineFault) (W : ℕ) (setting : Setting) (defined : Defined) (line : List ℕ) (command : Command) (names : List (List ℕ)) (fs : List (List Term)) (before after : Work)
+    → form_of setting.variables line ≡ Ok (Ask command names) → polynomials_of defined names ≡ Ok fs → OnOk r (IsTallied W (calculations_of setting command fs) before after)
+    → OnOk r (IsTallied W (line_calculations setting defined line) before after)
+tallied_by (Ok x) W setting defined line command names fs before after said known h =
+    subst (λ (made : List Calculation). IsTallied W made before after)
+    (sym (line_makes setting defined line (Ask command names) said ∙ ap (calculations_asked setting command) known)) h
+tallied_by (Err fault) W setting defined line command names fs before after said known h = tt
 
-both_make : (make : List Term → List Term → Calculation) (defined : Defined) (a b : List ℕ) (f g : List Term) → known (defined a) ≡ Ok f → known (defined b) ≡ Ok g
-    → of_both make (defined a) (defined b) ≡ make f g ∷ []
-both_make make defined a b f g left right = λ i. of_both make (known_is (defined a) f left i) (known_is (defined b) g right i)
+module _ (ord : Order) (lim n : ℕ) (setting : Setting) (is : IsSettingOf ord lim n setting) (p : ℕ) (f g : List Term) (modulus : p ≡ setting.modulus) where
+  pub mul_makes : MakesProduct (by_fewer_rows ord p n f g) ∷ [] ≡ calculations_of setting Mul (f ∷ g ∷ [])
+  mul_makes = λ i. MakesProduct (by_fewer_rows (sym is.order i) (modulus i) (sym is.variables i) f g) ∷ []
 
-module _ (ord : Order) (lim n : ℕ) (setting : Setting) (is : IsSettingOf ord lim n setting) (defined : Defined) (a b : List ℕ) (f g : List Term) (p : ℕ)
-    (left : known (defined a) ≡ Ok f) (right : known (defined b) ≡ Ok g) (modulus : p ≡ setting.modulus) where
-  pub mul_makes : MakesProduct (by_fewer_rows ord p n f g) ∷ [] ≡ calculations_of setting defined (Mul a b)
-  mul_makes =
-      (λ i. MakesProduct (by_fewer_rows (sym is.order i) (modulus i) (sym is.variables i) f g) ∷ [])
-      ∙ sym (both_make (λ f g. MakesProduct (product_within setting f g)) defined a b f g left right)
-
-  divides : (mode : Mode) → MakesDivision (division mode ord n p f g) ∷ [] ≡ MakesDivision (division mode setting.order (length setting.variables) setting.modulus f g) ∷ []
+  divides : (mode : Mode) → MakesDivision (division mode ord n p f g) ∷ [] ≡ MakesDivision (division_in setting mode f g) ∷ []
   divides mode = λ i. MakesDivision (division mode (sym is.order i) (sym is.variables i) (modulus i) f g) ∷ []
 
-  pub div_makes : MakesDivision (division Exact ord n p f g) ∷ [] ≡ calculations_of setting defined (Div a b)
-  div_makes =
-      divides Exact
-      ∙ sym (both_make (λ f g. MakesDivision (division Exact setting.order (length setting.variables) setting.modulus f g)) defined a b f g left right)
+  pub div_makes : MakesDivision (division Exact ord n p f g) ∷ [] ≡ calculations_of setting Div (f ∷ g ∷ [])
+  div_makes = divides Exact
 
-  pub rem_makes : MakesDivision (division Remainder ord n p f g) ∷ [] ≡ calculations_of setting defined (Rem a b)
-  rem_makes =
-      divides Remainder
-      ∙ sym (both_make (λ f g. MakesDivision (division Remainder setting.order (length setting.variables) setting.modulus f g)) defined a b f g left right)
+  pub rem_makes : MakesDivision (division Remainder ord n p f g) ∷ [] ≡ calculations_of setting Rem (f ∷ g ∷ [])
+  rem_makes = divides Remainder
+
+-- what was made was counted, whatever comes after
+pub made_of : {T : Type 0} (r : Result T LineFault) (W : ℕ) (setting : Setting) (command : Command) (fs both : List (List Term)) (made : List Calculation) (before after : Work)
+    → IsTallied W made before after → made ≡ calculations_of setting command both → fs ≡ both → OnOk r (IsTallied W (calculations_of setting command fs) before after)
+made_of (Ok x) W setting command fs both made before after h e is = subst (λ (l : List Calculation). IsTallied W l before after) (e ∙ sym (ap (calculations_of setting command) is)) h
+made_of (Err fault) W setting command fs both made before after h e is = tt
 
 -- ---- which factor gives the rows
 module _ (ord : Order) (p q n : ℕ) (f g : List Term) where

@@ -7,11 +7,13 @@ use Rattle.sdmp_laws.specs.LongDivision.{quotient_list}
 use Rattle.sdmp_laws.specs.declared.Mode.TheVariants.{Exact, Remainder}
 use Rattle.whole_laws.specs.Notes.{Product}
 use Rattle.global_heap.specs.Names.{notes_total}
-use Rattle.calc_session.specs.Body.{Form, Mul, Div, Rem, form_of}
-use Rattle.calc_session.specs.Session.{Monomials, Setting, Defined, setting_of, undefined, division_in, answer_to}
+use Rattle.calc_session.specs.Body.{Form, Ask, form_of}
+use Rattle.calc_session.specs.Session.{Monomials, Setting, Defined, setting_of, undefined, polynomials_of, division_in, answer_to}
 use Rattle.calc_session.specs.View.{Body, held}
 use Rattle.calc_session.specs.Demo.{demo_input}
 use Rattle.calc_session.specs.Heads.{Head, head_of}
+use Rattle.calc_session.specs.declared.commands.Command.{Command}
+use Rattle.calc_session.specs.declared.commands.Command.TheVariants.{Mul, Div, Rem}
 use Rattle.calc_session.specs.declared.fault.LineFault.{LineFault}
 use Rattle.sdmp_words.specs.declared.settings.Settings.{Settings}
 use Rattle.sdmp_top.specs.Monomials.{packed}
@@ -31,20 +33,20 @@ by_fewer_rows ord p n f g =
 abbrev pub product_within : Setting → List Term → List Term → Product
 product_within setting f g = by_fewer_rows setting.order setting.modulus (length setting.variables) f g
 
-abbrev pub of_both : (List Term → List Term → Calculation) → Option (List Term) → Option (List Term) → List Calculation
-of_both make (Some f) (Some g) = make f g ∷ []
-of_both make _ _ = []
+-- what a command makes of polynomials
+abbrev pub calculations_of : Setting → Command → List (List Term) → List Calculation
+calculations_of setting Mul (f ∷ g ∷ []) = MakesProduct (product_within setting f g) ∷ []
+calculations_of setting Div (f ∷ g ∷ []) = MakesDivision (division_in setting Exact f g) ∷ []
+calculations_of setting Rem (f ∷ g ∷ []) = MakesDivision (division_in setting Remainder f g) ∷ []
+calculations_of setting _ _ = []
 
--- what a command makes of the polynomials of its names
-abbrev pub calculations_of : Setting → Defined → Form → List Calculation
-calculations_of setting defined (Mul a b) = of_both (λ f g. MakesProduct (product_within setting f g)) (defined a) (defined b)
-calculations_of setting defined (Div a b) = of_both (λ f g. MakesDivision (division_in setting Exact f g)) (defined a) (defined b)
-calculations_of setting defined (Rem a b) = of_both (λ f g. MakesDivision (division_in setting Remainder f g)) (defined a) (defined b)
-calculations_of setting defined _ = []
+abbrev pub calculations_asked : Setting → Command → Result (List (List Term)) LineFault → List Calculation
+calculations_asked setting command (Ok fs) = calculations_of setting command fs
+calculations_asked setting command (Err fault) = []
 
 abbrev pub calculations_said : Setting → Defined → Result Form LineFault → List Calculation
-calculations_said setting defined (Ok form) = calculations_of setting defined form
-calculations_said setting defined (Err fault) = []
+calculations_said setting defined (Ok (Ask command names)) = calculations_asked setting command (polynomials_of defined names)
+calculations_said setting defined _ = []
 
 -- what a line makes
 unfoldable pub line_calculations : Setting → Defined → List ℕ → List Calculation

@@ -1,7 +1,6 @@
 //! What the lines of a body do.
-ghost use Rattle.std.specs.Prelude.{◌≡◌, ◌≢◌, [], Ok, Err, IfErr, OnOk, OnErr};
+ghost use Rattle.std.specs.Prelude.{◌≡◌, ◌≢◌, ◌∷◌, [], ℕ, length, map, All, Ok, Err, IfErr, IfSome, MatchOption, OnOk, OnErr};
 ghost use Rattle.sdmp_laws.specs.Poly.{IsPoly};
-ghost use Rattle.calc_session.specs.Body.{Show, Mul, Div, Rem};
 ghost use Rattle.calc_session.specs.Session.{answer_to, answer_of};
 ghost use Rattle.calc_session.specs.View.{held};
 ghost use Rattle.sdmp_top.specs.Work.{IsTallied, calculations_of, line_calculations, tally_of};
@@ -9,7 +8,9 @@ ghost use Rattle.sdmp_top.specs.Work.{IsTallied, calculations_of, line_calculati
 use crate::division::{quotient, remainder};
 use crate::ends::Ends;
 use crate::workers::{Workers, product};
-use calc_session::{BodySession, Line, LineFault, parse_line, write_line, write_none, write_pair};
+use calc_session::{
+    BodySession, Command, Line, LineFault, parse_line, write_line, write_none, write_pair,
+};
 use canonical_terms::Poly;
 use coeff_ring::CoeffRing;
 use packed_monomial::Monomial;
@@ -37,29 +38,56 @@ pub fn answer_line<T: Threads + Sync, G: Gate, R: CoeffRing, M: Monomial>(
     match parse_line(line, session.names())? {
         Line::Skip => Ok(()),
         Line::Define { name, start } => session.define(alloc, name, line, start),
-        Line::Show { a } => show(alloc, session, a, out),
-        Line::Mul { a, b } => multiply(alloc, by, ends, session, a, b, out),
-        Line::Div { a, b } => divide(alloc, by, ends, session, a, b, out),
-        Line::Rem { a, b } => divide_with_rest(alloc, by, ends, session, a, b, out),
+        Line::Ask { command, names } => {
+            let polynomials = session.polynomials(alloc, names)?;
+            answer_command(alloc, by, ends, session, command, &polynomials, out)
+        }
     }
 }
 
-// writes the text of what the name stands for
-fn show<R: CoeffRing, M: Monomial>(
+// writes what the command makes of polynomials of the session
+fn answer_command<T: Threads + Sync, G: Gate, R: CoeffRing, M: Monomial>(
     alloc: Global,
+    by: &Workers<'_, T, G>,
+    ends: &mut Ends,
     session: &BodySession<R, M>,
-    a: &[u8],
+    command: Command,
+    polynomials: &[&Poly<R, M>],
     out: &mut Vec<u8>,
 ) -> Result<(), LineFault>
     requires empty { out.old.items ≡ [] }
-    ensures ok { OnOk result (answer_of session.now.setting (held session.now.defined) (Show a.now) ≡ Ok out.new.items) }
-    ensures refused { IfErr result (λ fault. fault ≢ LineFault.NoMemory → answer_of session.now.setting (held session.now.defined) (Show a.now) ≡ Err fault) }
+    requires moduli { All (λ f. f.now.modulus ≡ session.now.setting.modulus) polynomials.now }
+    ensures ok { OnOk result (answer_of session.now.setting command (map (λ f. f.now.list) polynomials.now) ≡ Ok out.new.items) }
+    ensures refused { IfErr result (λ fault. fault ≢ LineFault.NoMemory → answer_of session.now.setting command (map (λ f. f.now.list) polynomials.now) ≡ Err fault) }
+    ensures same { OnErr result (out.new.items ≡ []) }
+    ensures tallied { OnOk result (IsTallied by.now.workers (calculations_of session.now.setting command (map (λ f. f.now.list) polynomials.now)) (tally_of ends.old) (tally_of ends.new)) }
+    ensures untallied { IfErr result (λ fault. fault ≢ LineFault.NoMemory → tally_of ends.new ≡ tally_of ends.old) }
+{
+    match command {
+        Command::Show => show(alloc, session, polynomials, out),
+        Command::Mul => multiply(alloc, by, ends, session, polynomials, out),
+        Command::Div => divide(alloc, by, ends, session, polynomials, out),
+        Command::Rem => divide_with_rest(alloc, by, ends, session, polynomials, out),
+    }
+}
+
+// writes the text of the polynomial
+fn show<R: CoeffRing, M: Monomial>(
+    alloc: Global,
+    session: &BodySession<R, M>,
+    polynomials: &[&Poly<R, M>],
+    out: &mut Vec<u8>,
+) -> Result<(), LineFault>
+    requires empty { out.old.items ≡ [] }
+    requires moduli { All (λ f. f.now.modulus ≡ session.now.setting.modulus) polynomials.now }
+    ensures ok { OnOk result (answer_of session.now.setting Command.Show (map (λ f. f.now.list) polynomials.now) ≡ Ok out.new.items) }
+    ensures refused { IfErr result (λ fault. fault ≢ LineFault.NoMemory → answer_of session.now.setting Command.Show (map (λ f. f.now.list) polynomials.now) ≡ Err fault) }
     ensures same { OnErr result (out.new.items ≡ []) }
 {
-    match session.look_up(a) {
-        Ok(f) => write_line(alloc, f, session.names(), out),
-        Err(fault) => Err(fault),
-    }
+    let [f] = polynomials else {
+        return Err(LineFault::ArgumentCount);
+    };
+    write_line(alloc, f, session.names(), out)
 }
 
 // writes the text of the product
@@ -68,20 +96,21 @@ fn multiply<T: Threads + Sync, G: Gate, R: CoeffRing, M: Monomial>(
     by: &Workers<'_, T, G>,
     ends: &mut Ends,
     session: &BodySession<R, M>,
-    a: &[u8],
-    b: &[u8],
+    polynomials: &[&Poly<R, M>],
     out: &mut Vec<u8>,
 ) -> Result<(), LineFault>
     requires empty { out.old.items ≡ [] }
-    ensures ok { OnOk result (answer_of session.now.setting (held session.now.defined) (Mul a.now b.now) ≡ Ok out.new.items) }
-    ensures refused { IfErr result (λ fault. fault ≢ LineFault.NoMemory → answer_of session.now.setting (held session.now.defined) (Mul a.now b.now) ≡ Err fault) }
+    requires moduli { All (λ f. f.now.modulus ≡ session.now.setting.modulus) polynomials.now }
+    ensures ok { OnOk result (answer_of session.now.setting Command.Mul (map (λ f. f.now.list) polynomials.now) ≡ Ok out.new.items) }
+    ensures refused { IfErr result (λ fault. fault ≢ LineFault.NoMemory → answer_of session.now.setting Command.Mul (map (λ f. f.now.list) polynomials.now) ≡ Err fault) }
     ensures same { OnErr result (out.new.items ≡ []) }
-    ensures tallied { OnOk result (IsTallied by.now.workers (calculations_of session.now.setting (held session.now.defined) (Mul a.now b.now)) (tally_of ends.old) (tally_of ends.new)) }
+    ensures tallied { OnOk result (IsTallied by.now.workers (calculations_of session.now.setting Command.Mul (map (λ f. f.now.list) polynomials.now)) (tally_of ends.old) (tally_of ends.new)) }
     ensures untallied { IfErr result (λ fault. fault ≢ LineFault.NoMemory → tally_of ends.new ≡ tally_of ends.old) }
 {
     let names = session.names();
-    let f = session.look_up(a)?;
-    let g = session.look_up(b)?;
+    let Some((f, g)) = pair(polynomials) else {
+        return Err(LineFault::ArgumentCount);
+    };
     let product = product(alloc, by, ends, f, g)?;
     write_line(alloc, &product, names, out)
 }
@@ -92,22 +121,21 @@ fn divide<T: Threads + Sync, G: Gate, R: CoeffRing, M: Monomial>(
     by: &Workers<'_, T, G>,
     ends: &mut Ends,
     session: &BodySession<R, M>,
-    a: &[u8],
-    b: &[u8],
+    polynomials: &[&Poly<R, M>],
     out: &mut Vec<u8>,
 ) -> Result<(), LineFault>
     requires empty { out.old.items ≡ [] }
-    ensures ok { OnOk result (answer_of session.now.setting (held session.now.defined) (Div a.now b.now) ≡ Ok out.new.items) }
-    ensures refused { IfErr result (λ fault. fault ≢ LineFault.NoMemory → answer_of session.now.setting (held session.now.defined) (Div a.now b.now) ≡ Err fault) }
+    requires moduli { All (λ f. f.now.modulus ≡ session.now.setting.modulus) polynomials.now }
+    ensures ok { OnOk result (answer_of session.now.setting Command.Div (map (λ f. f.now.list) polynomials.now) ≡ Ok out.new.items) }
+    ensures refused { IfErr result (λ fault. fault ≢ LineFault.NoMemory → answer_of session.now.setting Command.Div (map (λ f. f.now.list) polynomials.now) ≡ Err fault) }
     ensures same { OnErr result (out.new.items ≡ []) }
-    ensures tallied { OnOk result (IsTallied by.now.workers (calculations_of session.now.setting (held session.now.defined) (Div a.now b.now)) (tally_of ends.old) (tally_of ends.new)) }
+    ensures tallied { OnOk result (IsTallied by.now.workers (calculations_of session.now.setting Command.Div (map (λ f. f.now.list) polynomials.now)) (tally_of ends.old) (tally_of ends.new)) }
     ensures untallied { IfErr result (λ fault. fault ≢ LineFault.NoMemory → tally_of ends.new ≡ tally_of ends.old) }
 {
     let names = session.names();
-    let f = session.look_up(a)?;
-    let g = session.look_up(b)?;
-    canonical(f);
-    canonical(g);
+    let Some((f, g)) = pair(polynomials) else {
+        return Err(LineFault::ArgumentCount);
+    };
     match quotient(alloc, by, ends, f, g)? {
         Some(quotient) => write_line(alloc, &quotient, names, out),
         None => write_none(out),
@@ -120,29 +148,45 @@ fn divide_with_rest<T: Threads + Sync, G: Gate, R: CoeffRing, M: Monomial>(
     by: &Workers<'_, T, G>,
     ends: &mut Ends,
     session: &BodySession<R, M>,
-    a: &[u8],
-    b: &[u8],
+    polynomials: &[&Poly<R, M>],
     out: &mut Vec<u8>,
 ) -> Result<(), LineFault>
     requires empty { out.old.items ≡ [] }
-    ensures ok { OnOk result (answer_of session.now.setting (held session.now.defined) (Rem a.now b.now) ≡ Ok out.new.items) }
-    ensures refused { IfErr result (λ fault. fault ≢ LineFault.NoMemory → answer_of session.now.setting (held session.now.defined) (Rem a.now b.now) ≡ Err fault) }
+    requires moduli { All (λ f. f.now.modulus ≡ session.now.setting.modulus) polynomials.now }
+    ensures ok { OnOk result (answer_of session.now.setting Command.Rem (map (λ f. f.now.list) polynomials.now) ≡ Ok out.new.items) }
+    ensures refused { IfErr result (λ fault. fault ≢ LineFault.NoMemory → answer_of session.now.setting Command.Rem (map (λ f. f.now.list) polynomials.now) ≡ Err fault) }
     ensures same { OnErr result (out.new.items ≡ []) }
-    ensures tallied { OnOk result (IsTallied by.now.workers (calculations_of session.now.setting (held session.now.defined) (Rem a.now b.now)) (tally_of ends.old) (tally_of ends.new)) }
+    ensures tallied { OnOk result (IsTallied by.now.workers (calculations_of session.now.setting Command.Rem (map (λ f. f.now.list) polynomials.now)) (tally_of ends.old) (tally_of ends.new)) }
     ensures untallied { IfErr result (λ fault. fault ≢ LineFault.NoMemory → tally_of ends.new ≡ tally_of ends.old) }
 {
     let names = session.names();
-    let f = session.look_up(a)?;
-    let g = session.look_up(b)?;
-    canonical(f);
-    canonical(g);
+    let Some((f, g)) = pair(polynomials) else {
+        return Err(LineFault::ArgumentCount);
+    };
     let divided = remainder(alloc, by, ends, f, g)?;
     write_pair(alloc, &divided.quotient, &divided.remainder, names, out)
 }
 
-// a polynomial's list is canonical, which its invariant says
-fn canonical<R: CoeffRing, M: Monomial>(f: &Poly<R, M>)
-    ensures { IsPoly M.order f.now.modulus M.VARS f.now.list }
+// the two polynomials, where there are two
+fn pair<'a, R: CoeffRing, M: Monomial>(
+    polynomials: &[&'a Poly<R, M>],
+) -> Option<(&'a Poly<R, M>, &'a Poly<R, M>)>
+    ensures lists { MatchOption
+        result
+        (length polynomials.now ≢ 2)
+        (λ both. map (λ f. f.now.list) polynomials.now ≡ both.0.now.list ∷ both.1.now.list ∷ []) }
+    ensures moduli { IfSome
+        result
+        (λ both. (p : ℕ) → All (λ f. f.now.modulus ≡ p) polynomials.now → (both.0.now.modulus ≡ p) × (both.1.now.modulus ≡ p)) }
+    ensures canonical { IfSome
+        result
+        (λ both. IsPoly M.order both.0.now.modulus M.VARS both.0.now.list × IsPoly M.order both.1.now.modulus M.VARS both.1.now.list) }
 {
+    let [f, g] = polynomials else {
+        return None;
+    };
+    // each is canonical
     let _ = f.terms();
+    let _ = g.terms();
+    Some((*f, *g))
 }

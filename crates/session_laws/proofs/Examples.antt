@@ -16,9 +16,11 @@ use Rattle.calc_session.specs.Answers.{Answers, text, done, refused}
 use Rattle.calc_session.specs.Lines.{cut_lines, without_return, effective}
 use Rattle.calc_session.specs.Faults.{fault_words, fault_column}
 use Rattle.calc_session.specs.Header.{modulus_of}
-use Rattle.calc_session.specs.Body.{Define, Show, definition, command}
+use Rattle.calc_session.specs.Commands.{command_of}
+use Rattle.calc_session.specs.Body.{Define, Ask, definition}
 use Rattle.calc_session.specs.Product.{product}
 use Rattle.calc_session.specs.Session.{Monomials, Setting, setting_of, Defined, undefined, define, answers as answers_in, vars_answers, ring_answers, body_answers, answer_to, reading_at, text_line, product_in, division_lines}
+use Rattle.calc_session.specs.declared.commands.Command.TheVariants.{Show}
 use Rattle.calc_session.specs.declared.ending.Ending.TheVariants.{Done}
 use Rattle.calc_session.specs.declared.ring.RingChoice.TheVariants.{Integers}
 use Rattle.session_laws.specs.Answered.{IsCanonicalList, IsRead, IsAnswered}
@@ -45,7 +47,7 @@ abbrev difference : List ℕ
 difference = codes "vars x\nring Z\na = x+1\nb = x-1\nmul a b\n"
 
 difference_is : answers difference ≡ all (codes "x^2-1\n" ∷ [])
-unfolding answers_in digits cut_lines without_return words_of word_fault fault_behind effective vars_answers ring_answers definition command answer_to body_answers reading_at denotes class_of text_line product_in product times row term_times ◌⋅◌ norm terms put keep is_zero term_plus alike is_below tie_below lex_below degree
+unfolding answers_in digits cut_lines without_return words_of word_fault fault_behind effective vars_answers ring_answers definition command_of answer_to body_answers reading_at denotes class_of text_line product_in product times row term_times ◌⋅◌ norm terms put keep is_zero term_plus alike is_below tie_below lex_below degree
 difference_is = refl
 
 difference_answered : IsAnsweredPacked difference (all (codes "x^2-1\n" ∷ []))
@@ -56,7 +58,7 @@ abbrev square : List ℕ
 square = codes "vars x\nring mod 2\na = x+1\nmul a a\nshow a\n"
 
 square_is : answers square ≡ all (codes "x^2+1\n" ∷ codes "x+1\n" ∷ [])
-unfolding answers_in digits cut_lines without_return words_of word_fault fault_behind effective vars_answers ring_answers modulus_of definition command answer_to body_answers reading_at denotes class_of text_line product_in product times row term_times ◌⋅◌ norm terms put keep is_zero term_plus alike is_below tie_below lex_below degree
+unfolding answers_in digits cut_lines without_return words_of word_fault fault_behind effective vars_answers ring_answers modulus_of definition command_of answer_to body_answers reading_at denotes class_of text_line product_in product times row term_times ◌⋅◌ norm terms put keep is_zero term_plus alike is_below tie_below lex_below degree
 square_is = refl
 
 square_answered : IsAnsweredPacked square (all (codes "x^2+1\n" ∷ codes "x+1\n" ∷ []))
@@ -67,7 +69,7 @@ abbrev divisions : List ℕ
 divisions = codes "vars x\nring Z\na = x^2-1\nb = x-1\nc = x\ndiv a b\nrem a c\ndiv a c\n"
 
 divisions_are : answers divisions ≡ all (codes "x+1\n" ∷ codes "x\n-1\n" ∷ codes "none\n" ∷ [])
-unfolding answers_in digits cut_lines without_return words_of word_fault fault_behind effective vars_answers ring_answers definition command answer_to body_answers reading_at denotes class_of text_line division_lines outcome is_empty is_unit asks_unit looked_at passes_early is_long ending quotient_list turns_bound turns_at turn_at turn_on listed factor first_in_scope rest_list minus negated term_neg lm lc over divides times row term_times ◌⋅◌ norm terms put keep is_zero term_plus alike is_below tie_below lex_below degree
+unfolding answers_in digits cut_lines without_return words_of word_fault fault_behind effective vars_answers ring_answers definition command_of answer_to body_answers reading_at denotes class_of text_line division_lines outcome is_empty is_unit asks_unit looked_at passes_early is_long ending quotient_list turns_bound turns_at turn_at turn_on listed factor first_in_scope rest_list minus negated term_neg lm lc over divides times row term_times ◌⋅◌ norm terms put keep is_zero term_plus alike is_below tie_below lex_below degree
 divisions_are = refl
 
 divisions_answered : IsAnsweredPacked divisions (all (codes "x+1\n" ∷ codes "x\n-1\n" ∷ codes "none\n" ∷ []))
@@ -78,7 +80,7 @@ abbrev faulty : List ℕ
 faulty = codes "vars x\nring Z\na = x*2\nshow a\n"
 
 faulty_is : answers faulty ≡ refused (codes "line 3: syntax at 7\n")
-unfolding answers_in digits fault_words fault_column cut_lines without_return words_of word_fault fault_behind effective vars_answers ring_answers definition command answer_to body_answers reading_at denotes class_of
+unfolding answers_in digits fault_words fault_column cut_lines without_return words_of word_fault fault_behind effective vars_answers ring_answers definition command_of answer_to body_answers reading_at denotes class_of
 faulty_is = refl
 
 faulty_answered : IsAnsweredPacked faulty (refused (codes "line 3: syntax at 7\n"))
@@ -138,7 +140,7 @@ now = define (codes "a") x undefined
 
 -- `a = x` defines a, and `show a` writes x
 shown_answered : IsAnsweredPacked shown (all (codes "x\n" ∷ []))
-unfolding shown cut_lines without_return words_of word_fault fault_behind effective definition command text_line digits degree
+unfolding shown cut_lines without_return words_of word_fault fault_behind effective definition command_of text_line digits degree
 shown_answered =
     inl (
       codes "x" ∷ [],
@@ -151,7 +153,7 @@ shown_answered =
           [],
           all (codes "x\n" ∷ []),
           (Define (codes "a") 3, refl, (record { f = x; read = variable_read; held = refl }, refl)),
-          inl (now, codes "x\n", done, (Show (codes "a"), refl, (refl, record { f = x; known = refl; written = refl })), refl, refl),
+          inl (now, codes "x\n", done, (Ask Show (codes "a" ∷ []), refl, (refl, record { given = x ∷ []; known = refl; written = refl })), refl, refl),
           refl,
         ),
       ),

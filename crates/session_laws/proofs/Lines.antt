@@ -1,5 +1,5 @@
 -- Lines: what the rules say of a line is what is computed, and they say something of each line.
-use Rattle.std.proofs.Common.{◌≡◌, ◌⊎◌, ◌++◌, ℕ, Bool, true, false, cond, codes, List, [], length, drop, Option, Some, None, Result, Ok, Err, refl, sym, ap, ◌∙◌, subst, inl, inr}
+use Rattle.std.proofs.Common.{◌≡◌, ◌⊎◌, ◌++◌, ℕ, zero, suc, Bool, true, false, cond, codes, List, [], ◌∷◌, length, map, drop, Option, Some, None, Result, Ok, Err, refl, sym, ap, ◌∙◌, subst, inl, inr, arith}
 use Rattle.std.specs.Str.{bytes_eq}
 use Rattle.sdmp_laws.specs.Poly.{Term, IsPoly}
 use Rattle.sdmp_laws.specs.declared.Mode.{Mode}
@@ -7,12 +7,14 @@ use Rattle.sdmp_laws.specs.declared.Mode.TheVariants.{Exact, Remainder}
 use Rattle.division_laws.specs.Outcome as outcome
 use Rattle.division_laws.specs.Outcome.{Outcome, OverZero, ByNoUnit, OverBound, OverTerms, IsOutcome}
 use Rattle.division_laws.proofs.OutcomeLemmas.{one_outcome, not_both_modes}
-use Rattle.calc_session.specs.Body.{Form, Skip, Define, Show, Mul, Div, Rem, form_of}
-use Rattle.calc_session.specs.Session.{Setting, Defined, undefined, define, known, ◌>>=◌, answer_of, line_answer, answer_to, reading_at, text_line, product_in, division_in, division_lines}
+use Rattle.calc_session.specs.Body.{Form, Skip, Define, Ask, form_of}
+use Rattle.calc_session.specs.Session.{Setting, Defined, undefined, define, known, ◌>>=◌, polynomials_of, answer_of, line_answer, answer_to, reading_at, text_line, product_in, division_in, division_lines}
+use Rattle.calc_session.specs.declared.commands.Command.{Command}
+use Rattle.calc_session.specs.declared.commands.Command.TheVariants.{Show, Mul, Div, Rem}
 use Rattle.calc_session.specs.declared.fault.LineFault.{LineFault}
-use Rattle.calc_session.specs.declared.fault.LineFault.TheVariants.{UnknownName, CoefficientBound, TermBound, ZeroDivisor, NotUnit}
-use Rattle.calc_session.proofs.CommandLemmas.{ArePolynomials, bind_ok, bind_err, shown, mul_ok, div_ok, div_none, rem_ok, lines_err}
-use Rattle.session_laws.specs.Answered.{IsRead, IsUnread, HasProduct, HasNoProduct, IsUndivided, AreKnown, WritesQuotient, WritesNone, WritesRemainder, IsUnknown, Does, PairFails, Fails, IsRight, IsWrong}
+use Rattle.calc_session.specs.declared.fault.LineFault.TheVariants.{ArgumentCount, UnknownName, CoefficientBound, TermBound, ZeroDivisor, NotUnit}
+use Rattle.calc_session.proofs.CommandLemmas.{ArePolynomials, bind_ok, bind_err, show_ok, mul_ok, div_ok, div_none, rem_ok, lines_err}
+use Rattle.session_laws.specs.Answered.{IsRead, IsUnread, HasProduct, HasNoProduct, IsUndivided, StandFor, IsUnknown, Writes, Refuses, Does, Fails, IsRight, IsWrong}
 use Rattle.session_laws.proofs.Polynomials.{read_is, unread_is, read_some, product_is, no_product, product_some}
 
 -- a list of terms is a polynomial of the setting
@@ -43,67 +45,27 @@ answer defined piece = Ok (defined, piece)
 same_answer : (old now : Defined) (piece written : List ℕ) → now ≡ old → written ≡ piece → answer old piece ≡ answer now written
 same_answer old now piece written d w = ap (λ (x : Defined). answer x piece) (sym d) ∙ ap (λ (x : List ℕ). answer now x) (sym w)
 
-module _ (setting : Setting) (old : Defined) (line : List ℕ) where
-  -- what a command writes is the piece, and the definitions stay
-  written : (r : Result (List ℕ) LineFault) (now : Defined) (piece : List ℕ) → now ≡ old → r ≡ Ok piece → (r >>= answer old) ≡ answer now piece
-  written r now piece d e = bind_ok r piece (answer old) e ∙ same_answer old now piece piece d refl
+-- ---- commands
+module _ (setting : Setting) where
+  -- lists of terms that are polynomials of the setting
+  abbrev pub ArePolys : List (List Term) → Type 0
+  ArePolys [] = Unit {0}
+  ArePolys (f ∷ fs) = IsPolyIn setting f × ArePolys fs
 
-  failed : (r : Result (List ℕ) LineFault) (fault : LineFault) → r ≡ Err fault → (r >>= answer old) ≡ Err fault
-  failed r fault e = bind_err r fault (answer old) e
+  both : (f g : List Term) → IsPolyIn setting f → IsPolyIn setting g → ArePolynomials setting (length setting.variables) setting.modulus f g
+  both f g o q = record { modulus = refl; variables = refl; dividend = o; divisor = q }
 
-  -- two names that are known stand for polynomials
-  polynomials : AllPolys setting old → (a b : List ℕ) (f g : List Term) → AreKnown old a b f g → ArePolynomials setting (length setting.variables) setting.modulus f g
-  polynomials all a b f g k = record { modulus = refl; variables = refl; dividend = all a f k.left; divisor = all b g k.right }
-
-  -- ---- the rules give what is computed
-  does_is : AllPolys setting old → (form : Form) (now : Defined) (piece : List ℕ) → Does setting old line form now piece → line_answer setting old line form ≡ Ok (now, piece)
+  writes_is : (command : Command) (fs : List (List Term)) → ArePolys fs → (piece : List ℕ) → Writes setting command fs piece → answer_of setting command fs ≡ Ok piece
   unfolding text_line IsOutcome
-  does_is all Skip now piece h = same_answer old now [] piece h.0 h.1
-  does_is all (Define name start) now piece h =
-      bind_ok (reading_at setting start line) h.0.f (λ f. answer (define name f old) []) (read_is setting start line h.0.f h.0.read)
-      ∙ same_answer (define name h.0.f old) now [] piece h.0.held h.1
-  does_is all (Show a) now piece h =
-      written (answer_of setting old (Show a)) now piece h.0 (shown setting old a piece h.1.f (ap known h.1.known) h.1.written)
-  does_is all (Mul a b) now piece h =
-      let m = h.1 in
-      let o = (all a m.f m.known.left).vectors in
-      let q = (all b m.g m.known.right).vectors in
-      written (answer_of setting old (Mul a b)) now piece h.0
-      (mul_ok setting old a b piece m.f m.g m.h setting.modulus (ap known m.known.left) (ap known m.known.right) refl (product_is setting m.f m.g m.h o q m.product) m.written)
-  does_is all (Div a b) now piece (d, inl m) =
-      written (answer_of setting old (Div a b)) now piece d
-      (div_ok setting old (length setting.variables) setting.modulus a b piece m.f m.g m.q (ap known m.known.left) (ap known m.known.right) (polynomials all a b m.f m.g m.known)
-      (m.quotient.within, refl, m.quotient.exact) m.written)
-  does_is all (Div a b) now piece (d, inr m) =
-      written (answer_of setting old (Div a b)) now piece d
-      (div_none setting old (length setting.variables) setting.modulus a b piece m.f m.g (ap known m.known.left) (ap known m.known.right) (polynomials all a b m.f m.g m.known)
-      (m.none.within, refl, m.none.none) m.written)
-  does_is all (Rem a b) now piece (d, m) =
-      written (answer_of setting old (Rem a b)) now piece d
-      (rem_ok setting old (length setting.variables) setting.modulus a b piece m.f m.g m.q m.r (ap known m.known.left) (ap known m.known.right) (polynomials all a b m.f m.g m.known)
-      (m.remainder.within, refl, m.remainder.remainder) m.written)
-
-  -- a command on two names that answers by what the names stand for
-  abbrev pair : List ℕ → List ℕ → (List Term → List Term → Result (List ℕ) LineFault) → Result (List ℕ) LineFault
-  pair a b told = known (old a) >>= (λ f. known (old b) >>= told f)
-
-  unknown_left : (a b : List ℕ) (told : List Term → List Term → Result (List ℕ) LineFault) → old a ≡ None → pair a b told ≡ Err UnknownName
-  unknown_left a b told e = bind_err (known (old a)) UnknownName (λ f. known (old b) >>= told f) (ap known e)
-
-  pair_known : (a b : List ℕ) (told : List Term → List Term → Result (List ℕ) LineFault) (f g : List Term) → AreKnown old a b f g → pair a b told ≡ told f g
-  pair_known a b told f g k =
-      bind_ok (known (old a)) f (λ f. known (old b) >>= told f) (ap known k.left) ∙ bind_ok (known (old b)) g (told f) (ap known k.right)
-
-  unknown_right : (a b : List ℕ) (told : List Term → List Term → Result (List ℕ) LineFault) (o : Option (List Term)) → old a ≡ o → old b ≡ None → pair a b told ≡ Err UnknownName
-  unknown_right a b told None ea eb = unknown_left a b told ea
-  unknown_right a b told (Some f) ea eb =
-      bind_ok (known (old a)) f (λ f. known (old b) >>= told f) (ap known ea) ∙ bind_err (known (old b)) UnknownName (told f) (ap known eb)
-
-  pair_fails : (a b : List ℕ) (told : List Term → List Term → Result (List ℕ) LineFault) (Fault : List Term → List Term → LineFault → Type 0) (fault : LineFault)
-      → ((f g : List Term) → AreKnown old a b f g → Fault f g fault → told f g ≡ Err fault) → PairFails old a b Fault fault → pair a b told ≡ Err fault
-  pair_fails a b told Fault fault gives (inl (inl e, t)) = unknown_left a b told e ∙ ap (λ f. Err f) (sym t)
-  pair_fails a b told Fault fault gives (inl (inr e, t)) = unknown_right a b told (old a) refl e ∙ ap (λ f. Err f) (sym t)
-  pair_fails a b told Fault fault gives (inr (f, g, k, h)) = pair_known a b told f g k ∙ gives f g k h
+  writes_is Show (f ∷ []) o piece h = show_ok setting piece f h
+  writes_is Mul (f ∷ g ∷ []) o piece (h, product, e) = mul_ok setting setting.modulus f g refl piece h (product_is setting f g h o.0.vectors o.1.0.vectors product) e
+  writes_is Div (f ∷ g ∷ []) o piece (inl (q, quotient, e)) =
+      div_ok setting (length setting.variables) setting.modulus f g (both f g o.0 o.1.0) piece q (quotient.within, refl, quotient.exact) e
+  writes_is Div (f ∷ g ∷ []) o piece (inr (none, e)) =
+      div_none setting (length setting.variables) setting.modulus f g (both f g o.0 o.1.0) piece (none.within, refl, none.none) e
+  writes_is Rem (f ∷ g ∷ []) o piece (q, r, remainder, e) =
+      rem_ok setting (length setting.variables) setting.modulus f g (both f g o.0 o.1.0) piece q r (remainder.within, refl, remainder.remainder) e
+  writes_is _ _ o piece h = absurd h
 
   undivided_is : (mode : Mode) (f g : List Term) (fault : LineFault) → ArePolynomials setting (length setting.variables) setting.modulus f g
       → IsUndivided mode setting f g fault → division_lines setting mode f g ≡ Err fault
@@ -114,22 +76,121 @@ module _ (setting : Setting) (old : Defined) (line : List ℕ) where
   undivided_is mode f g TermBound k h = lines_err setting mode (length setting.variables) setting.modulus f g TermBound k h (λ e. absurd cc)
   undivided_is mode f g _ k h = absurd h
 
+  refuses_is : (command : Command) (fs : List (List Term)) → ArePolys fs → (fault : LineFault) → Refuses setting command fs fault → answer_of setting command fs ≡ Err fault
+  refuses_is Show (f ∷ []) o fault h = absurd h
+  refuses_is Mul (f ∷ g ∷ []) o fault h = bind_err (product_in setting f g) fault (λ h. Ok (text_line setting h)) (no_product setting f g fault h)
+  refuses_is Div (f ∷ g ∷ []) o fault h = undivided_is Exact f g fault (both f g o.0 o.1.0) h
+  refuses_is Rem (f ∷ g ∷ []) o fault h = undivided_is Remainder f g fault (both f g o.0 o.1.0) h
+  refuses_is _ _ o fault h = ap (λ f. Err f) (sym h)
+
+  abbrev WritesOrRefuses : Command → List (List Term) → Type 0
+  WritesOrRefuses command fs = ((piece : List ℕ) × Writes setting command fs piece) ⊎ ((fault : LineFault) × Refuses setting command fs fault)
+
+  -- the rules say something of each division
+  divides_some : (mode : Mode) (f g : List Term) → ArePolys (f ∷ g ∷ []) → (o : Outcome) × IsOutcome (division_in setting mode f g) o
+  divides_some mode f g o = (outcome.outcome (division_in setting mode f g), (one_outcome (division_in setting mode f g) o.0 o.1.0).0)
+
+  command_some : (command : Command) (fs : List (List Term)) → ArePolys fs → WritesOrRefuses command fs
+  unfolding IsOutcome
+  command_some Show (f ∷ []) o = inl (text_line setting f, refl)
+  command_some Mul (f ∷ g ∷ []) o = by (product_some setting f g o.0.vectors o.1.0.vectors)
+    where
+      by : ((h : List Term) × HasProduct setting f g h) ⊎ ((fault : LineFault) × HasNoProduct setting f g fault) → WritesOrRefuses Mul (f ∷ g ∷ [])
+      by (inl (h, is)) = inl (text_line setting h, (h, is, refl))
+      by (inr (fault, is)) = inr (fault, is)
+  command_some Div (f ∷ g ∷ []) o = by (divides_some Exact f g o)
+    where
+      by : (o : Outcome) × IsOutcome (division_in setting Exact f g) o → WritesOrRefuses Div (f ∷ g ∷ [])
+      by (OverZero, h) = inr (ZeroDivisor, h)
+      by (ByNoUnit, h) = inr (NotUnit, h)
+      by (OverBound, h) = inr (CoefficientBound, h)
+      by (OverTerms, h) = inr (TermBound, h)
+      by (outcome.HasQuotient q, h) = inl (text_line setting q, inl (q, record { within = h.0; exact = h.2 }, refl))
+      by (outcome.HasNoQuotient, h) = inl (codes "none\n", inr (record { within = h.0; none = h.2 }, refl))
+      by (outcome.HasRemainder q r, h) = absurd (not_both_modes Exact refl h.1)
+  command_some Rem (f ∷ g ∷ []) o = by (divides_some Remainder f g o)
+    where
+      by : (o : Outcome) × IsOutcome (division_in setting Remainder f g) o → WritesOrRefuses Rem (f ∷ g ∷ [])
+      by (OverZero, h) = inr (ZeroDivisor, h)
+      by (ByNoUnit, h) = inr (NotUnit, h)
+      by (OverBound, h) = inr (CoefficientBound, h)
+      by (OverTerms, h) = inr (TermBound, h)
+      by (outcome.HasQuotient q, h) = absurd (not_both_modes Remainder h.1 refl)
+      by (outcome.HasNoQuotient, h) = absurd (not_both_modes Remainder h.1 refl)
+      by (outcome.HasRemainder q r, h) = inl (text_line setting q ++ text_line setting r, (q, r, record { within = h.0; remainder = h.2 }, refl))
+  command_some _ _ o = inr (ArgumentCount, refl)
+
+-- ---- names
+module _ (old : Defined) where
+  known_is : (names : List (List ℕ)) (fs : List (List Term)) → StandFor old names fs → polynomials_of old names ≡ Ok fs
+  known_is [] [] h = refl
+  known_is [] (f ∷ fs) h = absurd cc
+  known_is (name ∷ names) [] h = absurd cc
+  known_is (name ∷ names) (f ∷ fs) h =
+      let first : old name ≡ Some f = cc in
+      let rest : map old names ≡ map Some fs = cc in
+      bind_ok (known (old name)) f (λ f. polynomials_of old names >>= (λ fs. Ok (f ∷ fs))) (ap known first)
+      ∙ bind_ok (polynomials_of old names) fs (λ fs. Ok (f ∷ fs)) (known_is names fs rest)
+
+  unknown_later : (name : List ℕ) (names : List (List ℕ)) (f : List Term) → old name ≡ Some f → IsUnknown old (name ∷ names) → IsUnknown old names
+  unknown_later name names f e (zero, other, below, at, none) = absurd (let wrong : None ≡ Some f = sym none ∙ ap old (sym at) ∙ e in cc)
+  unknown_later name names f e (suc k, other, below, at, none) = (k, other, omega (arith, below), at, none)
+
+  unknown_is : (names : List (List ℕ)) → IsUnknown old names → polynomials_of old names ≡ Err UnknownName
+  unknown_is [] (k, other, below, at, none) = absurd (omega (arith, below))
+  unknown_is (name ∷ names) h = by (old name) refl (unknown_is names)
+    where
+      by : (o : Option (List Term)) → old name ≡ o → (IsUnknown old names → polynomials_of old names ≡ Err UnknownName) → polynomials_of old (name ∷ names) ≡ Err UnknownName
+      by None e later = bind_err (known (old name)) UnknownName (λ f. polynomials_of old names >>= (λ fs. Ok (f ∷ fs))) (ap known e)
+      by (Some f) e later =
+          bind_ok (known (old name)) f (λ f. polynomials_of old names >>= (λ fs. Ok (f ∷ fs))) (ap known e)
+          ∙ bind_err (polynomials_of old names) UnknownName (λ fs. Ok (f ∷ fs)) (later (unknown_later name names f e h))
+
+  names_some : (names : List (List ℕ)) → IsUnknown old names ⊎ ((fs : List (List Term)) × StandFor old names fs)
+  names_some [] = inr ([], refl)
+  names_some (name ∷ names) = by (old name) refl (names_some names)
+    where
+      by : (o : Option (List Term)) → old name ≡ o → IsUnknown old names ⊎ ((fs : List (List Term)) × StandFor old names fs)
+          → IsUnknown old (name ∷ names) ⊎ ((fs : List (List Term)) × StandFor old (name ∷ names) fs)
+      by None e later = inl (zero, name, omega arith, refl, e)
+      by (Some f) e (inl (k, other, below, at, none)) = inl (suc k, other, omega (arith, below), at, none)
+      by (Some f) e (inr (fs, h)) = inr (f ∷ fs, λ i. e i ∷ h i)
+
+  known_polys : (setting : Setting) → AllPolys setting old → (names : List (List ℕ)) (fs : List (List Term)) → StandFor old names fs → ArePolys setting fs
+  known_polys setting all [] [] h = tt
+  known_polys setting all [] (f ∷ fs) h = absurd cc
+  known_polys setting all (name ∷ names) [] h = absurd cc
+  known_polys setting all (name ∷ names) (f ∷ fs) h =
+      let first : old name ≡ Some f = cc in
+      let rest : map old names ≡ map Some fs = cc in
+      (all name f first, known_polys setting all names fs rest)
+
+-- ---- lines
+module _ (setting : Setting) (old : Defined) (line : List ℕ) where
+  -- what the names stand for is given to the command
+  abbrev asked : Command → List (List Term) → Result (Defined × List ℕ) LineFault
+  asked command fs = answer_of setting command fs >>= answer old
+
+  -- ---- the rules give what is computed
+  does_is : AllPolys setting old → (form : Form) (now : Defined) (piece : List ℕ) → Does setting old line form now piece → line_answer setting old line form ≡ Ok (now, piece)
+  does_is all Skip now piece h = same_answer old now [] piece h.0 h.1
+  does_is all (Define name start) now piece h =
+      bind_ok (reading_at setting start line) h.0.f (λ f. answer (define name f old) []) (read_is setting start line h.0.f h.0.read)
+      ∙ same_answer (define name h.0.f old) now [] piece h.0.held h.1
+  does_is all (Ask command names) now piece (same, h) =
+      bind_ok (polynomials_of old names) h.given (asked command) (known_is old names h.given h.known)
+      ∙ bind_ok (answer_of setting command h.given) piece (answer old) (writes_is setting command h.given (known_polys old setting all names h.given h.known) piece h.written)
+      ∙ same_answer old now piece piece same refl
+
   fails_is : AllPolys setting old → (form : Form) (fault : LineFault) → Fails setting old line form fault → line_answer setting old line form ≡ Err fault
   fails_is all Skip fault h = absurd h
   fails_is all (Define name start) fault h =
       bind_err (reading_at setting start line) fault (λ f. answer (define name f old) []) (unread_is setting start line fault h)
-  fails_is all (Show a) fault h =
-      failed (answer_of setting old (Show a)) fault (bind_err (known (old a)) UnknownName (λ f. Ok (text_line setting f)) (ap known h.0) ∙ ap (λ f. Err f) (sym h.1))
-  fails_is all (Mul a b) fault h =
-      failed (answer_of setting old (Mul a b)) fault
-      (pair_fails a b (λ f g. product_in setting f g >>= (λ h. Ok (text_line setting h))) (HasNoProduct setting) fault
-      (λ f g k is. bind_err (product_in setting f g) fault (λ h. Ok (text_line setting h)) (no_product setting f g fault is)) h)
-  fails_is all (Div a b) fault h =
-      failed (answer_of setting old (Div a b)) fault
-      (pair_fails a b (division_lines setting Exact) (IsUndivided Exact setting) fault (λ f g k is. undivided_is Exact f g fault (polynomials all a b f g k) is) h)
-  fails_is all (Rem a b) fault h =
-      failed (answer_of setting old (Rem a b)) fault
-      (pair_fails a b (division_lines setting Remainder) (IsUndivided Remainder setting) fault (λ f g k is. undivided_is Remainder f g fault (polynomials all a b f g k) is) h)
+  fails_is all (Ask command names) fault (inl (unknown, e)) =
+      bind_err (polynomials_of old names) UnknownName (asked command) (unknown_is old names unknown) ∙ ap (λ f. Err f) (sym e)
+  fails_is all (Ask command names) fault (inr (given, known, h)) =
+      bind_ok (polynomials_of old names) given (asked command) (known_is old names given known)
+      ∙ bind_err (answer_of setting command given) fault (answer old) (refuses_is setting command given (known_polys old setting all names given known) fault h)
 
   pub right_is : AllPolys setting old → (now : Defined) (piece : List ℕ) → IsRight setting old line now piece → answer_to setting old line ≡ Ok (now, piece)
   unfolding answer_to
@@ -145,10 +206,7 @@ module _ (setting : Setting) (old : Defined) (line : List ℕ) where
   does_polys all Skip now piece h = subst (AllPolys setting) (sym h.0) all
   does_polys all (Define name start) now piece h =
       subst (AllPolys setting) (sym h.0.held) (define_polys setting name h.0.f old h.0.read.sum.canonical all)
-  does_polys all (Show a) now piece h = subst (AllPolys setting) (sym h.0) all
-  does_polys all (Mul a b) now piece h = subst (AllPolys setting) (sym h.0) all
-  does_polys all (Div a b) now piece h = subst (AllPolys setting) (sym h.0) all
-  does_polys all (Rem a b) now piece h = subst (AllPolys setting) (sym h.0) all
+  does_polys all (Ask command names) now piece h = subst (AllPolys setting) (sym h.0) all
 
   pub right_polys : AllPolys setting old → (now : Defined) (piece : List ℕ) → IsRight setting old line now piece → AllPolys setting now
   right_polys all now piece (form, e, h) = does_polys all form now piece h
@@ -157,78 +215,22 @@ module _ (setting : Setting) (old : Defined) (line : List ℕ) where
   abbrev DoesOrFails : Form → Type 0
   DoesOrFails form = ((now : Defined) × (piece : List ℕ) × Does setting old line form now piece) ⊎ ((fault : LineFault) × Fails setting old line form fault)
 
-  abbrev Known : List ℕ → List ℕ → Type 0
-  Known a b = (f : List Term) × (g : List Term) × AreKnown old a b f g
-
-  known_some : (a b : List ℕ) → IsUnknown old a b ⊎ Known a b
-  known_some a b = by (old a) (old b) refl refl
-    where
-      by : (x y : Option (List Term)) → old a ≡ x → old b ≡ y → IsUnknown old a b ⊎ Known a b
-      by None y ea eb = inl (inl ea)
-      by (Some f) None ea eb = inl (inr eb)
-      by (Some f) (Some g) ea eb = inr (f, g, record { left = ea; right = eb })
-
   does_some : AllPolys setting old → (form : Form) → DoesOrFails form
-  unfolding IsOutcome
   does_some all Skip = inl (old, [], (refl, refl))
   does_some all (Define name start) = by (read_some setting start (drop start line))
     where
       by : ((f : List Term) × IsRead setting (drop start line) f) ⊎ ((fault : LineFault) × IsUnread setting start (drop start line) fault) → DoesOrFails (Define name start)
       by (inl (f, r)) = inl (define name f old, [], (record { f = f; read = r; held = refl }, refl))
       by (inr (fault, u)) = inr (fault, u)
-  does_some all (Show a) = by (old a) refl
+  does_some all (Ask command names) = by (names_some old names)
     where
-      by : (x : Option (List Term)) → old a ≡ x → DoesOrFails (Show a)
-      by None e = inr (UnknownName, (e, refl))
-      by (Some f) e = inl (old, text_line setting f, (refl, record { f = f; known = e; written = refl }))
-  does_some all (Mul a b) = by (known_some a b)
-    where
-      with_both : (f g : List Term) → AreKnown old a b f g → ((h : List Term) × HasProduct setting f g h) ⊎ ((fault : LineFault) × HasNoProduct setting f g fault) → DoesOrFails (Mul a b)
-      with_both f g k (inl (h, is)) = inl (old, text_line setting h, (refl, record { f = f; g = g; h = h; known = k; product = is; written = refl }))
-      with_both f g k (inr (fault, is)) = inr (fault, inr (f, g, k, is))
+      given_some : (given : List (List Term)) → StandFor old names given → WritesOrRefuses setting command given → DoesOrFails (Ask command names)
+      given_some given known (inl (piece, h)) = inl (old, piece, (refl, record { given = given; known = known; written = h }))
+      given_some given known (inr (fault, h)) = inr (fault, inr (given, known, h))
 
-      by : IsUnknown old a b ⊎ Known a b → DoesOrFails (Mul a b)
-      by (inl u) = inr (UnknownName, inl (u, refl))
-      by (inr (f, g, k)) = with_both f g k (product_some setting f g (all a f k.left).vectors (all b g k.right).vectors)
-  does_some all (Div a b) = by (known_some a b)
-    where
-      with_both : (f g : List Term) → AreKnown old a b f g → (o : Outcome) → IsOutcome (division_in setting Exact f g) o → DoesOrFails (Div a b)
-      with_both f g k OverZero h = inr (ZeroDivisor, inr (f, g, k, h))
-      with_both f g k ByNoUnit h = inr (NotUnit, inr (f, g, k, h))
-      with_both f g k OverBound h = inr (CoefficientBound, inr (f, g, k, h))
-      with_both f g k OverTerms h = inr (TermBound, inr (f, g, k, h))
-      with_both f g k (outcome.HasQuotient q) h =
-          inl (
-            old,
-            text_line setting q,
-            (refl, inl (record { f = f; g = g; q = q; known = k; quotient = record { within = h.0; exact = h.2 }; written = refl })),
-          )
-      with_both f g k outcome.HasNoQuotient h =
-          inl (old, codes "none\n", (refl, inr (record { f = f; g = g; known = k; none = record { within = h.0; none = h.2 }; written = refl })))
-      with_both f g k (outcome.HasRemainder q r) h = absurd (not_both_modes Exact refl h.1)
-
-      by : IsUnknown old a b ⊎ Known a b → DoesOrFails (Div a b)
-      by (inl u) = inr (UnknownName, inl (u, refl))
-      by (inr (f, g, k)) = with_both f g k (outcome.outcome (division_in setting Exact f g)) (one_outcome (division_in setting Exact f g) (all a f k.left) (all b g k.right)).0
-  does_some all (Rem a b) = by (known_some a b)
-    where
-      with_both : (f g : List Term) → AreKnown old a b f g → (o : Outcome) → IsOutcome (division_in setting Remainder f g) o → DoesOrFails (Rem a b)
-      with_both f g k OverZero h = inr (ZeroDivisor, inr (f, g, k, h))
-      with_both f g k ByNoUnit h = inr (NotUnit, inr (f, g, k, h))
-      with_both f g k OverBound h = inr (CoefficientBound, inr (f, g, k, h))
-      with_both f g k OverTerms h = inr (TermBound, inr (f, g, k, h))
-      with_both f g k (outcome.HasQuotient q) h = absurd (not_both_modes Remainder h.1 refl)
-      with_both f g k outcome.HasNoQuotient h = absurd (not_both_modes Remainder h.1 refl)
-      with_both f g k (outcome.HasRemainder q r) h =
-          inl (
-            old,
-            text_line setting q ++ text_line setting r,
-            (refl, record { f = f; g = g; q = q; r = r; known = k; remainder = record { within = h.0; remainder = h.2 }; written = refl }),
-          )
-
-      by : IsUnknown old a b ⊎ Known a b → DoesOrFails (Rem a b)
-      by (inl u) = inr (UnknownName, inl (u, refl))
-      by (inr (f, g, k)) = with_both f g k (outcome.outcome (division_in setting Remainder f g)) (one_outcome (division_in setting Remainder f g) (all a f k.left) (all b g k.right)).0
+      by : IsUnknown old names ⊎ ((given : List (List Term)) × StandFor old names given) → DoesOrFails (Ask command names)
+      by (inl unknown) = inr (UnknownName, inl (unknown, refl))
+      by (inr (given, known)) = given_some given known (command_some setting command given (known_polys old setting all names given known))
 
   abbrev pub RightOrWrong : Type 0
   RightOrWrong = ((now : Defined) × (piece : List ℕ) × IsRight setting old line now piece) ⊎ ((fault : LineFault) × IsWrong setting old line fault)

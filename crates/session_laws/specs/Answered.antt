@@ -1,5 +1,5 @@
 -- What a session answers, by relations: the grammar says what a text denotes, the one canonical list of a sum says which polynomial that is, and each kind of line has its rule.
-use Rattle.std.specs.Prelude.{◌≡◌, ◌≢◌, ◌⊎◌, ◌+◌, ◌++◌, ℕ, List, [], ◌∷◌, length, drop, codes, Some, None, Ok, Err}
+use Rattle.std.specs.Prelude.{◌≡◌, ◌≢◌, ◌⊎◌, ◌+◌, ◌++◌, ℕ, List, [], ◌∷◌, length, map, drop, codes, Any, Some, None, Ok, Err}
 use Rattle.sdmp_laws.specs.Ring.{IsUnit}
 use Rattle.sdmp_laws.specs.Poly.{Term, times, lc, IsTerms}
 use Rattle.sdmp_laws.specs.Division.{IsAccepted, IsExact, IsRem}
@@ -12,13 +12,15 @@ use Rattle.text_laws.specs.declared.TextFault.{TextFault}
 use Rattle.poly_text.specs.Words.{words_of}
 use Rattle.calc_session.specs.Lines.{lines, effective}
 use Rattle.calc_session.specs.Header.{vars_of, ring_of, characteristic_of}
-use Rattle.calc_session.specs.Body.{Form, Skip, Define, Show, Mul, Div, Rem, form_of}
+use Rattle.calc_session.specs.Body.{Form, Skip, Define, Ask, form_of}
 use Rattle.calc_session.specs.Faults.{fault_line}
 use Rattle.calc_session.specs.Answers.{Answers, before, done, refused}
 use Rattle.calc_session.specs.Session.{Monomials, Setting, setting_of, Defined, undefined, define, at_column, text_line, division_in}
+use Rattle.calc_session.specs.declared.commands.Command.{Command}
+use Rattle.calc_session.specs.declared.commands.Command.TheVariants.{Show, Mul, Div, Rem}
 use Rattle.calc_session.specs.declared.ring.RingChoice.{RingChoice}
 use Rattle.calc_session.specs.declared.fault.LineFault.{LineFault}
-use Rattle.calc_session.specs.declared.fault.LineFault.TheVariants.{VarsExpected, RingExpected, UnknownName, DegreeBound, CoefficientBound, TermBound, ZeroDivisor, NotUnit}
+use Rattle.calc_session.specs.declared.fault.LineFault.TheVariants.{VarsExpected, RingExpected, ArgumentCount, UnknownName, DegreeBound, CoefficientBound, TermBound, ZeroDivisor, NotUnit}
 
 -- ---- polynomials
 -- L is the list of the terms of the sum F
@@ -72,85 +74,57 @@ IsUndivided mode setting f g TermBound =
     IsAccepted (division_in setting mode f g) × (PassesEarly (division_in setting mode f g) → ⊥) × IsLong (division_in setting mode f g)
 IsUndivided mode setting f g _ = ⊥
 
--- ---- the kinds of lines
+-- ---- commands
+-- a command writes this piece of polynomials: `show` the polynomial, `mul` the product, `div` the quotient or that there is none, `rem` the quotient and then the remainder
+abbrev pub Writes : Setting → Command → List (List Term) → List ℕ → Type 0
+Writes setting Show (f ∷ []) piece = piece ≡ text_line setting f
+Writes setting Mul (f ∷ g ∷ []) piece = (h : List Term) × HasProduct setting f g h × (piece ≡ text_line setting h)
+Writes setting Div (f ∷ g ∷ []) piece =
+    ((q : List Term) × HasQuotient setting f g q × (piece ≡ text_line setting q)) ⊎ (HasNoQuotient setting f g × (piece ≡ codes "none\n"))
+Writes setting Rem (f ∷ g ∷ []) piece = (q : List Term) × (r : List Term) × HasRemainder setting f g q r × (piece ≡ text_line setting q ++ text_line setting r)
+Writes setting _ _ piece = ⊥
+
+-- a command has this fault of polynomials, among them that they are not as many as it takes
+abbrev pub Refuses : Setting → Command → List (List Term) → LineFault → Type 0
+Refuses setting Show (f ∷ []) fault = ⊥
+Refuses setting Mul (f ∷ g ∷ []) fault = HasNoProduct setting f g fault
+Refuses setting Div (f ∷ g ∷ []) fault = IsUndivided Exact setting f g fault
+Refuses setting Rem (f ∷ g ∷ []) fault = IsUndivided Remainder setting f g fault
+Refuses setting _ _ fault = fault ≡ ArgumentCount
+
+-- ---- lines
+-- the names stand for these polynomials, in order
+abbrev pub StandFor : Defined → List (List ℕ) → List (List Term) → Type 0
+StandFor defined names fs = map defined names ≡ map Some fs
+
 -- `name = text`: from now on the name stands for the polynomial of the text
 pub record Defines (setting : Setting) (old : Defined) (name text : List ℕ) (now : Defined) : Type 0 where
   pub f : List Term
   pub read : IsRead setting text f
   pub held : now ≡ define name f old
 
--- `show a`: the polynomial of the name is written
-pub record Shows (setting : Setting) (defined : Defined) (a piece : List ℕ) : Type 0 where
-  pub f : List Term
-  pub known : defined a ≡ Some f
-  pub written : piece ≡ text_line setting f
-
--- two names stand for these polynomials
-pub record AreKnown (defined : Defined) (a b : List ℕ) (f g : List Term) : Type 0 where
-  pub left : defined a ≡ Some f
-  pub right : defined b ≡ Some g
-
--- one of two names isn't defined
-abbrev pub IsUnknown : Defined → List ℕ → List ℕ → Type 0
-IsUnknown defined a b = (defined a ≡ None) ⊎ (defined b ≡ None)
-
--- `mul a b`: the product of the polynomials of the names is written
-pub record Multiplies (setting : Setting) (defined : Defined) (a b piece : List ℕ) : Type 0 where
-  pub f : List Term
-  pub g : List Term
-  pub h : List Term
-  pub known : AreKnown defined a b f g
-  pub product : HasProduct setting f g h
-  pub written : piece ≡ text_line setting h
-
--- `div a b`: the quotient is written
-pub record WritesQuotient (setting : Setting) (defined : Defined) (a b piece : List ℕ) : Type 0 where
-  pub f : List Term
-  pub g : List Term
-  pub q : List Term
-  pub known : AreKnown defined a b f g
-  pub quotient : HasQuotient setting f g q
-  pub written : piece ≡ text_line setting q
-
--- `div a b`: that there is no quotient is written
-pub record WritesNone (setting : Setting) (defined : Defined) (a b piece : List ℕ) : Type 0 where
-  pub f : List Term
-  pub g : List Term
-  pub known : AreKnown defined a b f g
-  pub none : HasNoQuotient setting f g
-  pub written : piece ≡ codes "none\n"
-
--- `rem a b`: the quotient is written, and then the remainder
-pub record WritesRemainder (setting : Setting) (defined : Defined) (a b piece : List ℕ) : Type 0 where
-  pub f : List Term
-  pub g : List Term
-  pub q : List Term
-  pub r : List Term
-  pub known : AreKnown defined a b f g
-  pub remainder : HasRemainder setting f g q r
-  pub written : piece ≡ text_line setting q ++ text_line setting r
+-- a command and names: what the command writes of what the names stand for is written
+pub record AnswersCommand (setting : Setting) (defined : Defined) (command : Command) (names : List (List ℕ)) (piece : List ℕ) : Type 0 where
+  pub given : List (List Term)
+  pub known : StandFor defined names given
+  pub written : Writes setting command given piece
 
 -- a line that says this makes these definitions of the old ones, and writes this piece
 abbrev pub Does : Setting → Defined → List ℕ → Form → Defined → List ℕ → Type 0
 Does setting old line Skip now piece = (now ≡ old) × (piece ≡ [])
 Does setting old line (Define name start) now piece = Defines setting old name (drop start line) now × (piece ≡ [])
-Does setting old line (Show a) now piece = (now ≡ old) × Shows setting old a piece
-Does setting old line (Mul a b) now piece = (now ≡ old) × Multiplies setting old a b piece
-Does setting old line (Div a b) now piece = (now ≡ old) × (WritesQuotient setting old a b piece ⊎ WritesNone setting old a b piece)
-Does setting old line (Rem a b) now piece = (now ≡ old) × WritesRemainder setting old a b piece
+Does setting old line (Ask command names) now piece = (now ≡ old) × AnswersCommand setting old command names piece
 
--- two names, of which one isn't defined, or which stand for polynomials that have the fault
-abbrev pub PairFails : Defined → List ℕ → List ℕ → (List Term → List Term → LineFault → Type 0) → LineFault → Type 0
-PairFails defined a b Fault fault = (IsUnknown defined a b × (fault ≡ UnknownName)) ⊎ ((f : List Term) × (g : List Term) × AreKnown defined a b f g × Fault f g fault)
+-- some name stands for nothing
+abbrev pub IsUnknown : Defined → List (List ℕ) → Type 0
+IsUnknown defined names = Any (λ name. defined name ≡ None) names
 
 -- a line that says this has the fault
 abbrev pub Fails : Setting → Defined → List ℕ → Form → LineFault → Type 0
 Fails setting defined line Skip fault = ⊥
 Fails setting defined line (Define name start) fault = IsUnread setting start (drop start line) fault
-Fails setting defined line (Show a) fault = (defined a ≡ None) × (fault ≡ UnknownName)
-Fails setting defined line (Mul a b) fault = PairFails defined a b (HasNoProduct setting) fault
-Fails setting defined line (Div a b) fault = PairFails defined a b (IsUndivided Exact setting) fault
-Fails setting defined line (Rem a b) fault = PairFails defined a b (IsUndivided Remainder setting) fault
+Fails setting defined line (Ask command names) fault =
+    (IsUnknown defined names × (fault ≡ UnknownName)) ⊎ ((given : List (List Term)) × StandFor defined names given × Refuses setting command given fault)
 
 -- the line is right: it says something, and does that
 abbrev pub IsRight : Setting → Defined → List ℕ → Defined → List ℕ → Type 0

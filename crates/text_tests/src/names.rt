@@ -1,8 +1,9 @@
-use poly_text::{Names, NamesFault};
+use poly_text::{Names, NamesFault, count_words};
 use std::test::Fail;
 
 #[test]
 fn reads_names(rt: HostRuntime) -> Result<(), Fail> {
+    assert_eq!(rt; count_words(b" x\ty_1  Z"), 3);
     let names = Names::new(rt.alloc(), b" x\ty_1  Z")?;
     assert_eq!(rt; names.len(), 3);
     assert_eq!(rt; names.word(1), "y_1");

@@ -1,6 +1,6 @@
 use calc_session::{
-    BodySession, Line, LineFault, RingChoice, demo_input, parse_header, parse_line, parse_ring,
-    parse_vars, split_line, write_fault, write_line, write_none, write_pair,
+    BodySession, Command, Line, LineFault, RingChoice, demo_input, parse_header, parse_line,
+    parse_ring, parse_vars, split_line, write_fault, write_line, write_none, write_pair,
 };
 use coeff_ring::Integers;
 use packed_monomial::Packed;
@@ -38,11 +38,26 @@ fn answers_lines(rt: HostRuntime) -> Result<(), Fail> {
     assert!(rt; !header.body.is_empty());
     let (line, rest) = split_line(header.body);
     assert!(rt; rest.is_empty());
-    assert!(rt; matches!(parse_line(line, &header.names), Ok(Line::Show { .. })));
+    assert!(rt;
+        matches!(
+            parse_line(line, &header.names),
+            Ok(Line::Ask {
+                command: Command::Show,
+                ..
+            })
+        )
+    );
     let session = BodySession::<Integers, Packed<1>>::new(rt.alloc(), Integers, header.names);
     assert_eq!(rt; session.names().len(), 1);
     assert!(rt; matches!(session.look_up(b"a"), Err(LineFault::UnknownName)));
     Ok(())
+}
+
+#[test]
+fn names_commands(rt: HostRuntime) {
+    assert_eq!(rt; Command::of_word(b"rem"), Some(Command::Rem));
+    assert!(rt; Command::Rem.takes(2));
+    assert!(rt; !Command::Show.takes(2));
 }
 
 #[test]
@@ -52,6 +67,11 @@ fn shows_what_is_defined(rt: HostRuntime) -> Result<(), Fail> {
     let mut session = BodySession::<Integers, Packed<1>>::new(rt.alloc(), Integers, header.names);
     session.define(rt.alloc(), b"a", b"a = 7", 3)?;
     session.define(rt.alloc(), b"a", b"a = x*x - 3 + 2", 3)?;
+    session.define(rt.alloc(), b"b", b"b = x", 3)?;
+    let both = session.polynomials(rt.alloc(), b" a\tb ")?;
+    assert_eq!(rt; both.len(), 2);
+    assert_eq!(rt; both[0].degree(), Some(2));
+    assert_eq!(rt; both[1].degree(), Some(1));
     let a = session.look_up(b"a")?;
     let mut out = Vec::new(rt.alloc());
     write_line(rt.alloc(), a, session.names(), &mut out)?;

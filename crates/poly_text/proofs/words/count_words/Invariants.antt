@@ -1,6 +1,6 @@
 use Rattle.std.proofs.Common.{◌≡◌, ◌≤◌, ◌+◌, length}
 use Rattle.poly_text.specs.Words.{words_of}
-use Rattle.poly_text.proofs.names.count_words.Given as goal
+use Rattle.poly_text.proofs.words.count_words.Given as goal
 
 abbrev pub invariant-loop-later : goal.invariant-loop-later
 invariant-loop-later l = record {
