@@ -27,6 +27,7 @@ const TERMS: usize = 1 << 30;
 
 // the first round has room for no fewer terms, and for no more
 const LEAST_ROOM: usize = 1 << 11;
+
 const MOST_ROOM: usize = 1 << 20;
 
 // The first round has room for 64 times the terms of both operands, within these bounds: memory that isn't written isn't taken, and each want of room ends the advances of all workers.
