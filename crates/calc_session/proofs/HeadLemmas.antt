@@ -20,7 +20,8 @@ module _ (variables : List (List ℕ)) (ring : RingChoice) (number : ℕ) where
   abbrev from_order : List (List ℕ) → Result Head HeaderFault
   from_order rest = order_head variables ring (number, rest)
 
-  abbrev by_order : List ℕ → List (List ℕ) → Result (Option Order) LineFault → Result Head HeaderFault
+  -- what follows the words of the order's line
+  abbrev pub by_order : List ℕ → List (List ℕ) → Result (Option Order) LineFault → Result Head HeaderFault
   by_order line later said = at_line number said >>= λ order. Ok (ordered variables ring number line later order)
 
   pub no_third : (rest : List (List ℕ)) → rest ≡ [] → Ok (head_in variables ring Grlex number rest) ≡ from_order rest
@@ -43,7 +44,8 @@ module _ (variables : List (List ℕ)) (number : ℕ) where
   abbrev from_ring : List (List ℕ) → Result Head HeaderFault
   from_ring rest = ring_head variables (number, rest)
 
-  abbrev by_ring : List (List ℕ) → Result RingChoice LineFault → Result Head HeaderFault
+  -- what follows the words of the ring's line
+  abbrev pub by_ring : List (List ℕ) → Result RingChoice LineFault → Result Head HeaderFault
   by_ring later said = at_line number said >>= λ ring. order_head variables ring (effective (number + 1) later)
 
   pub no_second : (rest : List (List ℕ)) → rest ≡ [] → fault_at number RingExpected ≡ from_ring rest
@@ -58,10 +60,11 @@ module _ (variables : List (List ℕ)) (number : ℕ) where
   second_ring rest line later ring e said = sym (ap from_ring e ∙ ap (by_ring later) said)
 
 -- ---- the whole header
-module _ (bytes : List ℕ) (number : ℕ) (rest : List (List ℕ)) (first : effective 1 (lines bytes) ≡ (number, rest)) where
-  abbrev by_vars : List (List ℕ) → Result (List (List ℕ)) LineFault → Result Head HeaderFault
-  by_vars later said = at_line number said >>= λ variables. ring_head variables (effective (number + 1) later)
+-- what follows the words of the variables' line
+abbrev pub by_vars : ℕ → List (List ℕ) → Result (List (List ℕ)) LineFault → Result Head HeaderFault
+by_vars number later said = at_line number said >>= λ variables. ring_head variables (effective (number + 1) later)
 
+module _ (bytes : List ℕ) (number : ℕ) (rest : List (List ℕ)) (first : effective 1 (lines bytes) ≡ (number, rest)) where
   from_first : head_of bytes ≡ vars_head (number, rest)
   unfolding head_of
   from_first = ap vars_head first
@@ -74,8 +77,8 @@ module _ (bytes : List ℕ) (number : ℕ) (rest : List (List ℕ)) (first : eff
 
   pub first_fault : (line : List ℕ) (later : List (List ℕ)) (fault : LineFault) → rest ≡ line ∷ later → vars_of (words_of line) ≡ Err fault
       → head_of bytes ≡ fault_at number fault
-  first_fault line later fault e said = from_first ∙ ap from_vars e ∙ ap (by_vars later) said
+  first_fault line later fault e said = from_first ∙ ap from_vars e ∙ ap (by_vars number later) said
 
   pub first_vars : (line : List ℕ) (later variables : List (List ℕ)) → rest ≡ line ∷ later → vars_of (words_of line) ≡ Ok variables
       → head_of bytes ≡ ring_head variables (effective (number + 1) later)
-  first_vars line later variables e said = from_first ∙ ap from_vars e ∙ ap (by_vars later) said
+  first_vars line later variables e said = from_first ∙ ap from_vars e ∙ ap (by_vars number later) said
