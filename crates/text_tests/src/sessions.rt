@@ -1,7 +1,7 @@
 use calc_session::{
-    BodySession, Command, HeaderFault, Line, LineFault, Order, RingChoice, demo_input, parse_header,
-    parse_line, parse_order, parse_ring, parse_vars, split_line, write_fault, write_line,
-    write_none, write_pair,
+    BodySession, Command, HeaderFault, Line, LineFault, Order, RingChoice, demo_input,
+    parse_header, parse_line, parse_order, parse_ring, parse_vars, split_line, write_fault,
+    write_line, write_none, write_pair,
 };
 use coeff_ring::Integers;
 use std::alloc::Global;
@@ -42,23 +42,20 @@ fn reads_orders(rt: HostRuntime) {
     }
 }
 
-// the lines before the body, which is left out of what is answered
-fn head_of(
-    alloc: Global,
-    input: &str,
-) -> Result<(usize, RingChoice, Order, u64), HeaderFault> {
+// how many variables there are, the ring, the order, and the number of the body's first line
+type Head = (usize, RingChoice, Order, u64);
+
+fn head_of(alloc: Global, input: &str) -> Result<Head, HeaderFault> {
     let header = parse_header(alloc, input.as_bytes())?;
-    Ok((
-        header.names.len(),
-        header.ring,
-        header.order,
-        header.line,
-    ))
+    Ok((header.names.len(), header.ring, header.order, header.line))
+}
+
+fn refused(line: u64, fault: LineFault) -> Result<Head, HeaderFault> {
+    Err(HeaderFault { line, fault })
 }
 
 #[test]
 fn reads_whole_headers(rt: HostRuntime) {
-    let wanted = |line: u64, fault: LineFault| Err(HeaderFault { line, fault });
     let rows = [
         (
             "vars x x1 x2 x3 x4 x5 x6 x7 x8 x9 x10 x11 x12 x13 x14\nring Z\na = x^64\n",
@@ -78,14 +75,14 @@ fn reads_whole_headers(rt: HostRuntime) {
         ),
         (
             "vars x\nring Z\norder lex\n",
-            wanted(3, LineFault::BadOrder),
+            refused(3, LineFault::BadOrder),
         ),
         (
             "vars a b c d e f g h i j k l m n o p\n",
-            wanted(1, LineFault::VariableCount),
+            refused(1, LineFault::VariableCount),
         ),
-        ("", wanted(1, LineFault::VarsExpected)),
-        ("vars x\nring\n", wanted(2, LineFault::RingExpected)),
+        ("", refused(1, LineFault::VarsExpected)),
+        ("vars x\nring\n", refused(2, LineFault::RingExpected)),
     ];
     for (input, header) in rows {
         assert_eq!(rt; head_of(rt.alloc(), input), header, "{input}");
