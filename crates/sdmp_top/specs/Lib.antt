@@ -1,3 +1,4 @@
+pub mod Memory
 pub mod Monomials
 pub mod Outside
 pub mod Work
