@@ -1,4 +1,4 @@
--- Elements, sums of products and words in the ring of a characteristic.
+-- Elements, and what fits, in the ring of a characteristic.
 use Rattle.std.proofs.Common.{◌≡◌, ◌≢◌, ℕ, zero, suc, ◌+◌, ◌*◌, ◌/◌, ◌%◌, ◌^◌, ◌≤◌, ◌<◌, ℤ, pos, ◌≤ℤ◌, ◌<ℤ◌, unsigned_abs, refl, sym, ap, subst, ◌∙◌, arith, List, [], ◌∷◌}
 use Rattle.std.specs.Int.{w128, cast_signed}
 use Rattle.std.proofs.Math.IntN.{negsuc}
@@ -10,28 +10,6 @@ use Rattle.sdmp_laws.proofs.ReducedLemmas.{red_pos}
 use Rattle.coeff_ring.specs.Words.{int_words, int_words-same}
 use Rattle.chosen_ring.specs.Elements.{IsElement, FitsRing, IsSum, sum_of}
 
--- ---- residues
-pub residue_of : (p : ℕ) (a : ℤ) → 2 ≤ p → IsElement p a → (pos 0 ≤ℤ a) × (a <ℤ pos p)
-residue_of zero a h e = absurd (omega arith)
-residue_of (suc k) a h e = e
-
-pub of_residue : (p n : ℕ) → n < p → IsElement p (pos n)
-of_residue zero n h = absurd (omega arith)
-of_residue (suc k) n h = (omega (arith, ints), omega (arith, ints, h))
-
-pub is_sum : (p s : ℕ) → 2 ≤ p → s < p * 2 ^ 64 → IsSum p s
-is_sum zero s h l = absurd (omega arith)
-is_sum (suc k) s h l = l
-
-pub sum_below : (p s : ℕ) → 2 ≤ p → IsSum p s → s < p * 2 ^ 64
-sum_below zero s h l = absurd (omega arith)
-sum_below (suc k) s h l = l
-
-pub sum_is : (p s : ℕ) → 2 ≤ p → sum_of p s ≡ pos (s % p)
-sum_is zero s h = absurd (omega arith)
-sum_is (suc k) s h = refl
-
--- ---- the laws of the ring
 pub element_reduced : (p : ℕ) (a : ℤ) → IsElement p a → red p a ≡ a
 element_reduced zero a h = refl
 element_reduced (suc k) (pos n) h = red_pos (suc k) n (omega arith) ∙ ap pos (mod-eq_of_lt (omega (arith, ints, h)))
@@ -57,7 +35,3 @@ element_small (suc k) (negsuc n) w h = absurd (omega (arith, ints, h))
 
 pub same_words : (p : ℕ) (a b : ℤ) → p < 2 ^ 64 → IsElement p a → IsElement p b → int_words a ≡ int_words b → a ≡ b
 same_words p a b w h i e = int_words-same p a b (element_small p a w h) (element_small p b w i) e
-
--- the words of a residue
-pub residue_words : (n : ℕ) → n < 2 ^ 64 → int_words (pos n) ≡ n ∷ 0 ∷ []
-residue_words n h = let low : n % 2 ^ 64 ≡ n = mod-eq_of_lt h in let high : n / 2 ^ 64 ≡ 0 = omega (arith, h) in cc
