@@ -1,4 +1,3 @@
-pub mod Monomials
 pub mod Outside
 pub mod Work
 pub mod Written
