@@ -1,6 +1,5 @@
 -- Elements, and what fits, in the ring of a characteristic.
-use Rattle.std.proofs.Common.{◌≡◌, ◌≢◌, ℕ, zero, suc, ◌+◌, ◌*◌, ◌/◌, ◌%◌, ◌^◌, ◌≤◌, ◌<◌, ℤ, pos, ◌≤ℤ◌, ◌<ℤ◌, unsigned_abs, refl, sym, ap, subst, ◌∙◌, arith, List, [], ◌∷◌}
-use Rattle.std.specs.Int.{w128, cast_signed}
+use Rattle.std.proofs.Common.{◌≡◌, ℕ, zero, suc, ◌^◌, ◌≤◌, ◌<◌, ℤ, pos, unsigned_abs, refl, ap, ◌∙◌, arith}
 use Rattle.std.proofs.Math.IntN.{negsuc}
 use Rattle.std.proofs.Math.Nat.{mod-eq_of_lt}
 use Rattle.std.proofs.lemmas.Int.{ints}
@@ -8,7 +7,7 @@ use Rattle.sdmp_laws.specs.Limits.{greatest_norm}
 use Rattle.sdmp_laws.specs.Ring.{red}
 use Rattle.sdmp_laws.proofs.ReducedLemmas.{red_pos}
 use Rattle.coeff_ring.specs.Words.{int_words, int_words-same}
-use Rattle.chosen_ring.specs.Elements.{IsElement, FitsRing, IsSum, sum_of}
+use Rattle.chosen_ring.specs.Elements.{IsElement, FitsRing}
 
 pub element_reduced : (p : ℕ) (a : ℤ) → IsElement p a → red p a ≡ a
 element_reduced zero a h = refl
