@@ -1,12 +1,14 @@
 -- Lemmas on what the lines before the body say.
-use Rattle.std.proofs.Common.{◌≡◌, ◌+◌, ℕ, List, [], ◌∷◌, Option, Some, None, Result, Ok, Err, refl, sym, ap, ◌∙◌}
+use Rattle.std.proofs.Common.{◌≡◌, ◌≢◌, ◌+◌, ℕ, List, [], ◌∷◌, Option, Some, None, Result, Ok, Err, MatchResult, sym, ap, ◌∙◌}
 use Rattle.poly_text.specs.Words.{words_of}
 use Rattle.calc_session.specs.Results.{◌>>=◌}
 use Rattle.calc_session.specs.Lines.{lines, effective}
 use Rattle.calc_session.specs.Header.{vars_of, ring_of, order_of}
 use Rattle.calc_session.specs.Heads.{Head, head_in, at_line, ordered, order_head, ring_head, vars_head, head_of}
+use Rattle.calc_session.specs.Says.{head_said, header_said}
 use Rattle.calc_session.specs.declared.fault.LineFault.{LineFault}
-use Rattle.calc_session.specs.declared.fault.LineFault.TheVariants.{VarsExpected, RingExpected}
+use Rattle.calc_session.specs.declared.fault.LineFault.TheVariants.{VarsExpected, RingExpected, NoMemory}
+use Rattle.calc_session.specs.declared.header.Header.{Header}
 use Rattle.calc_session.specs.declared.header.HeaderFault.{HeaderFault}
 use Rattle.calc_session.specs.declared.order.Order.{Order}
 use Rattle.calc_session.specs.declared.order.Order.TheVariants.{Grlex}
@@ -82,3 +84,9 @@ module _ (bytes : List ℕ) (number : ℕ) (rest : List (List ℕ)) (first : eff
   pub first_vars : (line : List ℕ) (later variables : List (List ℕ)) → rest ≡ line ∷ later → vars_of (words_of line) ≡ Ok variables
       → head_of bytes ≡ ring_head variables (effective (number + 1) later)
   first_vars line later variables e said = from_first ∙ ap from_vars e ∙ ap (by_vars number later) said
+
+-- what is read is the header, or its fault where memory isn't wanting
+pub told : (bytes : List ℕ) (read : Result Header HeaderFault) → head_of bytes ≡ header_said read
+    → MatchResult read (λ header. head_of bytes ≡ Ok (head_said header)) (λ e. e.fault ≢ NoMemory → head_of bytes ≡ Err e)
+told bytes (Ok header) e = e
+told bytes (Err fault) e = λ other. e

@@ -1,5 +1,5 @@
 -- The lines of the body.
-use Rattle.std.specs.Prelude.{◌+◌, ℕ, Bool, not, List, [], ◌∷◌, length, if◌then◌else◌, Result, Ok, Err, Option, Some, None, take, position}
+use Rattle.std.specs.Prelude.{◌+◌, ℕ, not, List, [], ◌∷◌, length, if◌then◌else◌, Result, Ok, Err, Option, Some, None, take, position}
 use Rattle.calc_session.specs.Lines.{is_equals, is_skipped}
 use Rattle.calc_session.specs.Commands.{command_of, takes}
 use Rattle.poly_text.specs.Words.{words_of}

@@ -11,7 +11,6 @@ use Rattle.text_laws.specs.Reading.{reading}
 use Rattle.text_laws.specs.Canonical.{text}
 use Rattle.text_laws.specs.declared.TextFault.{TextFault}
 use Rattle.text_laws.specs.declared.TextFault.TheVariants as text_fault
-use Rattle.poly_text.specs.Words.{words_of}
 use Rattle.wide_monomial.specs.Packing.{limit_of}
 use Rattle.calc_session.specs.Results.{◌>>=◌}
 use Rattle.calc_session.specs.Header.{characteristic_of, monomial_order}

@@ -33,7 +33,6 @@ pub struct HeaderFault {
 }
 
 /// Reads the variables, the ring and the order of a session, of which `bytes` is the whole input.
-#[tactic(auto, using(crate::proofs::HeadLemmas::no_first, crate::proofs::HeadLemmas::first_fault, crate::proofs::HeadLemmas::first_vars))]
 pub fn parse_header(alloc: Global, bytes: &[u8]) -> Result<Header<'_>, HeaderFault>
     ensures head { MatchResult
         result

@@ -7,7 +7,7 @@ use crate::lines::find_equals;
 use crate::order::Order;
 use poly_text::split_word;
 
-/// The order that a line chooses which isn't skipped. `None` stands for a line that chooses none, which belongs to the body: one with a `=`, or whose first word isn't `order`.
+/// The order that a line chooses. `None` stands for a line that chooses none: one with a `=`, or whose first word isn't `order`. As the third line of a session that isn't skipped it belongs to the body.
 pub fn parse_order(line: &[u8]) -> Result<Option<Order>, LineFault>
     ensures { result ≡ order_of line.now }
 {

@@ -127,6 +127,8 @@ impl Sink for Gathered {
 
     ghost flushed = { λ s. s.flushed };
 
+    ghost flush_failed = { λ s. false };
+
     fn write(&mut self, bytes: &[u8]) -> Result<usize, Failed> {
         self.flushed = false;
         if self.bytes.extend_from_slice(bytes).is_err() {
