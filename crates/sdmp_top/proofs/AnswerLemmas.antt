@@ -1,6 +1,6 @@
 -- Lemmas on the answers that have been written, and those that are to come.
 use Rattle.std.proofs.Common.{◌≡◌, ◌≤◌, ℕ, List, [], ◌∷◌, ◌++◌, length, take, drop, Option, Result, Ok, Err, OnOk, OnErr, is_err, Bool, true, false, map, refl, sym, ap, subst, ◌∙◌, arith, append_assoc, append-nil, length-append}
-use Rattle.std.proofs.Math.Seq.{take-append_seam}
+use Rattle.std.proofs.Math.Seq.{take-append_seam, take-length}
 use Rattle.std.proofs.lemmas.List.{take-append-drop}
 use Rattle.calc_session.specs.Lines.{lines}
 use Rattle.calc_session.proofs.EffectiveLemmas.{no_lines}
@@ -114,6 +114,15 @@ reached_refused old mid now first later piece bytes r e same a =
 pub reached_done : (old now : Option (List ℕ)) (first later : Answers) → Reached old now first later → later ≡ done → Appends old now (text first)
 reached_done old now first later r e =
     subst (Appends old now) (sym (reached_text old now first later r ∙ ap (λ (a : Answers). joined r.pieces ++ text a) e ∙ append-nil (joined r.pieces))) r.appends
+
+-- the whole text is that of all pieces; a flush that fails leaves it
+pub all_pieces : (old mid now : Option (List ℕ)) (answers : Answers) → Appends old mid (text answers) → now ≡ mid → AppendsPieces old now answers.pieces
+all_pieces old mid now answers a kept = record {
+  k = length answers.pieces;
+  within = omega arith;
+  appends = subst (λ (m : Option (List ℕ)). Appends old m (joined (take (length answers.pieces) answers.pieces))) (sym kept)
+      (subst (λ (ps : List (List ℕ)). Appends old mid (joined ps)) (sym (take-length answers.pieces)) a);
+}
 
 -- whole pieces are a beginning of the text
 pub pieces_part : (old now : Option (List ℕ)) (answers : Answers) → AppendsPieces old now answers.pieces → AppendsPart old now (text answers)

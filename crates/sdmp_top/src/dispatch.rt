@@ -1,5 +1,5 @@
 //! One session for each number of variables and each ring.
-ghost use Rattle.std.specs.Prelude.{◌≡◌, ◌≢◌, ◌+◌, ◌≤◌, Err, IfOk, IsErrOf, OnOk, length};
+ghost use Rattle.std.specs.Prelude.{◌≡◌, ◌≢◌, ◌+◌, ◌≤◌, false, Err, IfOk, IsErrOf, OnOk, length};
 ghost use Rattle.calc_session.specs.Lines.{lines};
 ghost use Rattle.calc_session.specs.Header.{IsChoice, characteristic_of};
 ghost use Rattle.calc_session.specs.Faults.{fault_line};
@@ -41,6 +41,7 @@ pub fn answer_input<T: Threads + Sync, G: Gate, K: Sink>(
     ensures later { K.faults sink.old ≤ K.faults sink.new }
     ensures rose { IsErrOf result AnsweringFault.WriteFault → Rose (K.faults sink.old) (K.faults sink.new) (K.at_last sink.new) }
     ensures steady { result ≢ Err AnsweringFault.WriteFault → K.faults sink.new ≡ K.faults sink.old }
+    ensures no_flush { IsErrOf result AnsweringFault.WriteFault → K.flush_failed sink.new ≡ false }
     ensures tallied { OnOk result (IsTallied by.now.workers (calculations packed input.now) (tally_of ends.old) (tally_of ends.new)) }
 {
     match parse_header(alloc, input) {
@@ -58,6 +59,7 @@ fn refuse<K: Sink>(
 ) -> Result<Ending, AnsweringFault>
     ensures answering { (told : Answers) → (fault ≢ LineFault.NoMemory → told ≡ refused (fault_line line fault))
         → IsAnswering told (K.held sink.old) (K.held sink.new) (K.faults sink.old) (K.faults sink.new) (K.at_last sink.new) result }
+    ensures no_flush { IsErrOf result AnsweringFault.WriteFault → K.flush_failed sink.new ≡ false }
     ensures told { OnOk result (fault ≢ LineFault.NoMemory) }
 {
     if let LineFault::NoMemory = fault {
@@ -99,6 +101,7 @@ fn answer_body<T: Threads + Sync, G: Gate, K: Sink>(
     requires ring { IsChoice header.ring }
     requires numbers { header.line + length header.body.now ≤ u64.MAX }
     ensures answering { IsAnswering (body_answers (setting_of packed header.entry.names (characteristic_of header.entry.ring)) undefined header.entry.line (lines header.entry.body.now)) (K.held sink.old) (K.held sink.new) (K.faults sink.old) (K.faults sink.new) (K.at_last sink.new) result }
+    ensures no_flush { IsErrOf result AnsweringFault.WriteFault → K.flush_failed sink.new ≡ false }
     ensures tallied { OnOk result (IsTallied by.now.workers (body_calculations (setting_of packed header.entry.names (characteristic_of header.entry.ring)) undefined (lines header.entry.body.now)) (tally_of ends.old) (tally_of ends.new)) }
 {
     by_variables!(alloc, by, ends, header, sink; 1, 2, 3, 4, 5, 6, 7)
@@ -119,6 +122,7 @@ fn answer_in<T: Threads + Sync, G: Gate, R: CoeffRing, M: Monomial, K: Sink>(
     requires limit { M.LIM ≡ packed.limit (length header.names) }
     requires numbers { header.line + length header.body.now ≤ u64.MAX }
     ensures answering { IsAnswering (body_answers (setting_of packed header.entry.names (characteristic_of header.entry.ring)) undefined header.entry.line (lines header.entry.body.now)) (K.held sink.old) (K.held sink.new) (K.faults sink.old) (K.faults sink.new) (K.at_last sink.new) result }
+    ensures no_flush { IsErrOf result AnsweringFault.WriteFault → K.flush_failed sink.new ≡ false }
     ensures tallied { OnOk result (IsTallied by.now.workers (body_calculations (setting_of packed header.entry.names (characteristic_of header.entry.ring)) undefined (lines header.entry.body.now)) (tally_of ends.old) (tally_of ends.new)) }
 {
     let mut session = BodySession::<R, M>::new(alloc, ring, header.names);
