@@ -1,7 +1,8 @@
 ghost use Rattle.std.specs.Prelude.{◌≡◌, length, IfOk};
 
+use canonical_terms::{Poly, TermOf};
 use coeff_ring::Integers;
-use packed_monomial::Packed;
+use packed_monomial::{Monomial, Packed};
 use poly_text::{Names, TextFault, read_poly, write_poly};
 use std::alloc::Global;
 use std::test::Fail;
@@ -24,6 +25,46 @@ fn reads_and_writes(rt: HostRuntime) -> Result<(), Fail> {
     let mut out = Vec::from_slice(rt.alloc(), b"a:")?;
     write_poly(rt.alloc(), &poly, &names, &mut out)?;
     assert_eq!(rt; out.as_slice(), b"a:x^2-1".as_slice());
+    Ok(())
+}
+
+type Line = Poly<Integers, Packed<1>>;
+
+// the sum of the terms of these exponents and coefficients
+fn sum(alloc: Global, terms: &[(u32, i64)]) -> Result<Line, Fail> {
+    let mut list = Vec::new(alloc);
+    for (exponent, coef) in terms {
+        list.push(TermOf {
+            mono: Packed::<1>::pack(&[*exponent])?,
+            coef: i128::from(*coef),
+        })?;
+    }
+    Ok(Line::from_terms(alloc, Integers, list)?)
+}
+
+fn text(alloc: Global, poly: &Line) -> Result<Vec<u8>, Fail> {
+    let names = one_name(alloc)?;
+    let mut out = Vec::new(alloc);
+    write_poly(alloc, poly, &names, &mut out)?;
+    Ok(out)
+}
+
+#[test]
+fn writes_sums_and_copies(rt: HostRuntime) -> Result<(), Fail> {
+    let alloc = rt.alloc();
+    let rows = [
+        ([(1, 1), (0, 2), (1, -1)].as_slice(), "2"),
+        ([].as_slice(), "0"),
+        ([(0, 1), (1, 1)].as_slice(), "x+1"),
+    ];
+    for (terms, wanted) in rows {
+        let poly = sum(alloc, terms)?;
+        assert_eq!(rt; text(alloc, &poly)?.as_slice(), wanted.as_bytes());
+        let copy = poly.copy(alloc)?;
+        assert_eq!(rt; text(alloc, &copy)?.as_slice(), wanted.as_bytes());
+    }
+    let zero = Line::zero(alloc, Integers);
+    assert_eq!(rt; text(alloc, &zero)?.as_slice(), b"0".as_slice());
     Ok(())
 }
 

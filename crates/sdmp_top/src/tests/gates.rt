@@ -49,6 +49,10 @@ fn two_workers_run_beside_each_other(rt: HostRuntime) -> Result<(), Fail> {
             "vars x y\nring Z\na = x^2-y^2+x+y\nb = x-y+1\ndiv a b\n",
             "x+y\n",
         ),
+        (
+            "vars x y\nring Z\na = x^2*y+x*y^2+y^2\nb = x*y-1\nrem a b\n",
+            "x+y\ny^2+x+y\n",
+        ),
     ];
     for (session, text) in rows {
         let gate = PairGate {
