@@ -62,6 +62,7 @@ fn words_of(fault: &LineFault) -> &'static str
         LineFault::RepeatedName => "repeated name",
         LineFault::RingExpected => "ring expected",
         LineFault::BadModulus => "bad modulus",
+        LineFault::BadOrder => "bad order",
         LineFault::VariableName => "variable name",
         LineFault::Syntax { .. } => "syntax",
         LineFault::UnknownNameAt { .. } => "unknown name",
