@@ -1,0 +1,4 @@
+pub mod Sums
+pub mod Faults
+pub mod Held
+pub mod Heads
