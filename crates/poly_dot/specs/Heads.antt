@@ -1,7 +1,8 @@
 -- The merge of several sources of terms: their heads in a heap, what is left of each, and what its comparisons are paid by.
-use Rattle.std.specs.Prelude.{◌≡◌, ℕ, ◌+◌, ◌*◌, ◌<◌, ◌≤◌, ◌⊎◌, ◌^◌, Bool, true, List, [], ◌∷◌, length, Option, Some, None, ℤ, pos, map, sum_by, slice_index_or, slice_set, unsigned_abs}
+use Rattle.std.specs.Prelude.{◌≡◌, ℕ, ◌+◌, ◌*◌, ◌<◌, ◌≤◌, ◌⊎◌, ◌^◌, List, [], ◌∷◌, length, Option, Some, None, ℤ, pos, sum_by, slice_index_or, slice_set}
 use Rattle.sdmp_laws.specs.Order.{Order, IsUnder}
-use Rattle.sdmp_laws.specs.Poly.{Term, norm, Same, sum_over, terms}
+use Rattle.sdmp_laws.specs.Ring.{IsReduced}
+use Rattle.sdmp_laws.specs.Poly.{Term, norm, Same, AllBelow, sum_over}
 use Rattle.sdmp_laws.specs.Limits.{greatest_norm}
 use Rattle.sdmp_laws.specs.Canonical.{IsCanonical}
 use Rattle.chained_heap.specs.declared.node.Place.{Place}
@@ -37,6 +38,10 @@ all_of rests = sum_over (length rests) (rest_at rests)
 abbrev pub count_of : List (List Term) → ℕ
 count_of rests = sum_by length rests
 
+-- what the terms that sources have yet to give, and the heads in the heap, pay for: 3*K comparisons each and 2*K
+abbrev pub credit : ℕ → List (List Term) → ℕ → ℕ
+credit K rests heads = 3 * K * count_of rests + 2 * K * heads
+
 -- the monomial at which heads are taken
 abbrev pub taken_mono : Option (List ℕ) → List ℕ
 taken_mono None = []
@@ -65,18 +70,18 @@ module _ {M : Type 0} where
   abbrev pub heads_in : List (Place M) → ℕ
   heads_in places = sum_by in_heap places
 
-  -- a head that is out has no terms behind it once the merge has begun; one in the heap is under the monomial at which heads are taken; and none is taken where there is no such monomial
-  abbrev pub IsHead : (M → List ℕ) → Order → Option (List ℕ) → Bool → Place M → List Term → Type 0
-  IsHead vector ord top begun Out R = begun ≡ true → R ≡ []
-  IsHead vector ord top begun (In m) R = IsUnder ord top (vector m)
+  -- where the head of a source is that has begun or not, and has yet to give R: it is out before the source begins, and where nothing is left; in the heap it is under the monomial at which heads are taken; and none is taken where there is no such monomial
+  abbrev pub IsHead : (M → List ℕ) → Order → Option (List ℕ) → Type 0 → Place M → List Term → Type 0
+  IsHead vector ord top begun Out R = begun → R ≡ []
+  IsHead vector ord top begun (In m) R = begun × IsUnder ord top (vector m)
   IsHead vector ord None begun Taken R = ⊥
-  IsHead vector ord (Some x) begun Taken R = Unit {0}
+  IsHead vector ord (Some x) begun Taken R = begun
 
-  -- each head is at its place, and what is left of each source is canonical
-  pub record AreHeads (vector : M → List ℕ) (ord : Order) (p n lim : ℕ) (top : Option (List ℕ)) (begun : Bool) (places : List (Place M)) (coefs : List ℤ) (rests : List (List Term)) : Type 0 where
+  -- the first sources have begun; each head is at its place, and what is left of each source is canonical
+  pub record AreHeads (vector : M → List ℕ) (ord : Order) (p n lim : ℕ) (top : Option (List ℕ)) (begun : ℕ) (places : List (Place M)) (coefs : List ℤ) (rests : List (List Term)) : Type 0 where
     pub places_count : length places ≡ length rests
     pub coefs_count : length coefs ≡ length rests
-    pub placed : (k : ℕ) → k < length rests → IsHead vector ord top begun (place_at places k) (rest_at rests k)
+    pub placed : (k : ℕ) → k < length rests → IsHead vector ord top (k < begun) (place_at places k) (rest_at rests k)
     pub canonical : (k : ℕ) → k < length rests → IsCanonical ord p n lim (left_at vector (taken_mono top) places coefs rests k)
     pub fits : p ≡ 0 → norm (left vector (taken_mono top) places coefs rests) ≤ greatest_norm
 
@@ -99,3 +104,10 @@ module _ {M : Type 0} where
 
   abbrev pub Gives : (M → List ℕ) → ℕ → List (Place M) → List (Place M) → List ℤ → List ℤ → List (List Term) → List (List Term) → Type 0
   Gives vector k places new_places coefs new_coefs rests new_rests = HasEnded k places new_places coefs new_coefs rests new_rests ⊎ HasGiven vector k places new_places coefs new_coefs rests new_rests
+
+-- t is the sum of the terms of F at its monomial, and U are the others, all below
+pub record IsNextSum (ord : Order) (p n : ℕ) (F U : List Term) (t : Term) : Type 0 where
+  pub vector : length t.monomial ≡ n
+  pub reduced : IsReduced p t.coefficient
+  pub same : Same p F (t ∷ U)
+  pub below : AllBelow ord t.monomial U

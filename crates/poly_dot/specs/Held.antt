@@ -7,11 +7,11 @@ use Rattle.poly_dot.specs.Sums.{Factors, norms}
 use Rattle.poly_dot.specs.declared.pairs.Pair.{Pair}
 
 -- a pair of polynomials as plain data
-abbrev pub factors_of : Pair → Factors
+abbrev pub factors_of : {R M E : Type 0} → Pair R M E → Factors
 factors_of q = record { f = q.f.now.list; g = q.g.now.list }
 
 -- both have the modulus p
-abbrev pub IsOver : ℕ → Pair → Type 0
+abbrev pub IsOver : {R M E : Type 0} → ℕ → Pair R M E → Type 0
 IsOver p q = (q.f.now.modulus ≡ p) × (q.g.now.modulus ≡ p)
 
 -- both factors are canonical, and their degrees fit

@@ -1,6 +1,7 @@
 -- Sums of products: the pairs of factors, their sum, the pairs of a worker, and when a pair finds room.
 use Rattle.std.specs.Prelude.{◌≡◌, ℕ, suc, ◌+◌, ◌*◌, ◌%◌, ◌<◌, cond, eqb, List, [], ◌∷◌, ◌++◌, sum_by}
-use Rattle.sdmp_laws.specs.Poly.{Term, norm, times}
+use Rattle.sdmp_laws.specs.Order.{Order}
+use Rattle.sdmp_laws.specs.Poly.{Term, norm, times, terms}
 use Rattle.sdmp_laws.specs.Limits.{greatest_norm, IsDegreeOver}
 
 -- the two factors of a product
@@ -17,6 +18,10 @@ pub record Pairs : Type 0 where
 unfoldable pub dot : List Factors → List Term
 dot [] = []
 dot (q ∷ qs) = times q.f q.g ++ dot qs
+
+-- the list of the terms of a pair's product
+abbrev pub product_of : Order → ℕ → Factors → List Term
+product_of ord p q = terms ord p (times q.f q.g)
 
 -- the sum of the products of their norms
 unfoldable pub norms : List Factors → ℕ

@@ -3,11 +3,14 @@ ghost use Rattle.std.specs.Prelude.{◌≡◌, ◌≢◌, ◌+◌, ◌*◌, ◌^
 ghost use Rattle.sdmp_laws.specs.Poly.{norm, terms};
 ghost use Rattle.sdmp_laws.specs.Limits.{greatest_norm};
 ghost use Rattle.sdmp_laws.specs.Canonical.{IsCanonical};
-ghost use Rattle.canonical_terms.specs.View.{term_of};
+ghost use Rattle.canonical_terms.specs.View.{term_of, sum_of};
 ghost use Rattle.chained_heap.specs.declared.node.Place.{Place};
-ghost use Rattle.poly_dot.specs.Heads.{HasDigits, all_of, count_of, left, heads_in, AreHeads, Gives, IsSumOfHeads, IsNextOfHeads, BelongAll};
+ghost use Rattle.chained_heap.specs.Shape.{no_row};
+ghost use Rattle.row_merge.specs.Rows.{taken_rows};
+ghost use Rattle.poly_dot.specs.Sources.{modulus_of, rest_of, cost_of};
+ghost use Rattle.poly_dot.specs.Heads.{HasDigits, credit, all_of, left, heads_in, AreHeads, Gives, IsNextSum};
 
-use crate::sources::TermSource;
+use crate::sources::Source;
 use canonical_terms::{Term, TermOf};
 use chained_heap::ChainedHeap;
 use coeff_ring::CoeffRing;
@@ -21,9 +24,9 @@ use step_count::Steps;
 ///
 /// Contracts see the modulus, the sources, the list `rest` of the terms that were not handed out, and how many heads are in the heap.
 #[derive(Drop)]
-pub struct MultiwayMerge<R: CoeffRing, M: Monomial, S: TermSource<R, M> + Drop> {
+pub struct MultiwayMerge<'a, R: CoeffRing, M: Monomial> {
     ring: R,
-    sources: Vec<S>,
+    sources: Vec<Source<'a, R, M>>,
     // the coefficient of each source's head
     coefs: Vec<R::E>,
     heap: ChainedHeap<M>,
@@ -31,34 +34,41 @@ pub struct MultiwayMerge<R: CoeffRing, M: Monomial, S: TermSource<R, M> + Drop> 
     begun: bool,
 }
 
-impl<R: CoeffRing, M: Monomial, S: TermSource<R, M> + Drop> Model for MultiwayMerge<R, M, S> {
-    ghost use Rattle.std.specs.Prelude.{◌≡◌, None, [], map, All};
+impl<'a, R: CoeffRing, M: Monomial> Model for MultiwayMerge<'a, R, M> {
+    ghost use Rattle.std.specs.Prelude.{◌≡◌, ◌<◌, ◌^◌, None, [], map, All, cond, length};
     ghost use Rattle.sdmp_laws.specs.Poly.{terms};
     ghost use Rattle.poly_dot.specs.Heads.{RemainingOf, left, heads_in, AreHeads};
+    ghost use Rattle.poly_dot.specs.Sources.{modulus_of, rest_of};
+    ghost use Rattle.poly_dot.specs.declared.sources.Source.{Source};
 
-    ghost Value = { RemainingOf S };
+    ghost Value = { RemainingOf (Source R M R.E) };
 
     ghost view = { λ m. record {
       modulus = R.characteristic m.ring;
       sources = m.sources.items;
-      rest = terms M.order (R.characteristic m.ring) (left M.vector [] m.heap (map R.value m.coefs.items) (map S.rest m.sources.items));
+      rest = terms M.order (R.characteristic m.ring) (left M.vector [] m.heap (map R.value m.coefs.items) (map rest_of m.sources.items));
       heads = heads_in m.heap;
     } };
 
-    ghost invariant = { λ m. AreHeads M.vector M.order (R.characteristic m.ring) M.VARS M.LIM None m.begun m.heap (map R.value m.coefs.items) (map S.rest m.sources.items)
+    ghost invariant = { λ m. AreHeads M.vector M.order (R.characteristic m.ring) M.VARS M.LIM None (cond m.begun (length m.sources.items) 0) m.heap (map R.value m.coefs.items) (map rest_of m.sources.items)
+        × (length m.sources.items < 2 ^ 32)
         × All (R.belongs (R.characteristic m.ring)) m.coefs.items
-        × All (λ s. S.modulus s ≡ R.characteristic m.ring) m.sources.items };
+        × All (λ s. modulus_of s ≡ R.characteristic m.ring) m.sources.items };
 }
 
-impl<R: CoeffRing, M: Monomial, S: TermSource<R, M> + Drop> MultiwayMerge<R, M, S> {
+impl<'a, R: CoeffRing, M: Monomial> MultiwayMerge<'a, R, M> {
     /// The merge of sources that give canonical lists. Over the integers the norms of these add up to at most 2^127 - 1. Only want of memory is refused, which more than 2^32 - 1 sources are.
-    pub fn new(alloc: Global, ring: R, sources: Vec<S>) -> Result<MultiwayMerge<R, M, S>, NoMemory>
-        requires modulus { All (λ s. S.modulus s ≡ R.characteristic ring) sources.items }
-        requires canonical { All (λ s. IsCanonical M.order (R.characteristic ring) M.VARS M.LIM (S.rest s)) sources.items }
-        requires fits { R.characteristic ring ≡ 0 → norm (all_of (map S.rest sources.items)) ≤ greatest_norm }
+    pub fn new(
+        alloc: Global,
+        ring: R,
+        sources: Vec<Source<'a, R, M>>,
+    ) -> Result<MultiwayMerge<'a, R, M>, NoMemory>
+        requires modulus { All (λ s. modulus_of s ≡ R.characteristic ring) sources.items }
+        requires canonical { All (λ s. IsCanonical M.order (R.characteristic ring) M.VARS M.LIM (rest_of s)) sources.items }
+        requires fits { R.characteristic ring ≡ 0 → norm (all_of (map rest_of sources.items)) ≤ greatest_norm }
         ensures modulus { IfOk result (λ m. m.modulus ≡ R.characteristic ring) }
         ensures sources { IfOk result (λ m. m.sources ≡ sources.items) }
-        ensures rest { IfOk result (λ m. m.rest ≡ terms M.order (R.characteristic ring) (all_of (map S.rest sources.items))) }
+        ensures rest { IfOk result (λ m. m.rest ≡ terms M.order (R.characteristic ring) (all_of (map rest_of sources.items))) }
         ensures heads { IfOk result (λ m. m.heads ≡ 0) }
     {
         let count = sources.len();
@@ -88,12 +98,18 @@ impl<R: CoeffRing, M: Monomial, S: TermSource<R, M> + Drop> MultiwayMerge<R, M, 
             (λ t. self.old.rest ≡ term_of M.vector R.value t ∷ self.new.rest) }
         ensures belongs { IfSome result (λ t. R.belongs self.old.modulus t.coef) }
         ensures compares { (digits : ℕ → ℕ) → HasDigits digits →
-            steps.new.compares + sum_by (S.cost digits) self.old.sources + 3 * digits (length self.old.sources) * count_of (map S.rest self.new.sources) + 2 * digits (length self.old.sources) * self.new.heads
-            ≤ steps.old.compares + sum_by (S.cost digits) self.new.sources + 3 * digits (length self.old.sources) * count_of (map S.rest self.old.sources) + 2 * digits (length self.old.sources) * self.old.heads }
+            steps.new.compares + sum_by (cost_of digits) self.old.sources + credit (digits (length self.old.sources)) (map rest_of self.new.sources) self.new.heads
+            ≤ steps.old.compares + sum_by (cost_of digits) self.new.sources + credit (digits (length self.old.sources)) (map rest_of self.old.sources) self.old.heads }
     {
         if !self.begun {
             self.begun = true;
-            start(&mut self.sources, &mut self.coefs, &mut self.heap, steps);
+            start(
+                self.ring,
+                &mut self.sources,
+                &mut self.coefs,
+                &mut self.heap,
+                steps,
+            );
         }
         next_of(
             self.ring,
@@ -103,74 +119,153 @@ impl<R: CoeffRing, M: Monomial, S: TermSource<R, M> + Drop> MultiwayMerge<R, M, 
             steps,
         )
     }
+
+    /// All terms that were not handed out. The one refusal is want of memory.
+    pub fn all(&mut self, alloc: Global) -> Result<Vec<Term<R, M>>, NoMemory>
+        ensures terms { IfOk result (λ list. sum_of M.vector R.value list.items ≡ self.old.rest) }
+        ensures belongs { IfOk result (λ list. All (λ t. R.belongs self.old.modulus t.coef) list.items) }
+    {
+        let mut list = Vec::new(alloc);
+        let mut steps = Steps::new();
+        while let Some(term) = self.next(&mut steps) {
+            list.push(term)?;
+        }
+        Ok(list)
+    }
 }
 
 // a source whose head is out gives its next term as its head
 #[inline(always)]
-fn give<R: CoeffRing, M: Monomial, S: TermSource<R, M>>(
-    sources: &mut [S],
+fn give<R: CoeffRing, M: Monomial>(
+    sources: &mut [Source<'_, R, M>],
     coefs: &mut [R::E],
     heap: &mut ChainedHeap<M>,
     row: u32,
     steps: &mut Steps,
-) {
+)
+    requires within { row < length sources.old }
+    requires coefs { length coefs.old ≡ length sources.old }
+    requires heap { length heap.old ≡ length sources.old }
+    requires out { slice_index_or heap.old row Place.Out ≡ Place.Out }
+    ensures gives { Gives M.vector row heap.old heap.new (map R.value coefs.old) (map R.value coefs.new) (map rest_of sources.old) (map rest_of sources.new) }
+    ensures belongs { (p : ℕ) → All (λ s. modulus_of s ≡ p) sources.old → All (R.belongs p) coefs.old → All (R.belongs p) coefs.new }
+    ensures moduli { (p : ℕ) → All (λ s. modulus_of s ≡ p) sources.old → All (λ s. modulus_of s ≡ p) sources.new }
+    ensures compares { (digits : ℕ → ℕ) (K : ℕ) → HasDigits digits → length sources.old < 2 ^ K →
+        steps.new.compares + sum_by (cost_of digits) sources.old + credit K (map rest_of sources.new) (heads_in heap.new) ≤ steps.old.compares + sum_by (cost_of digits) sources.new + credit K (map rest_of sources.old) (heads_in heap.old) }
+{
     let at = row as usize;
-    if let Some(term) = sources[at].next_term(steps) {
+    if let Some(term) = sources[at].next(steps) {
         coefs[at] = term.coef;
         heap.insert(row, term.mono, steps);
     }
 }
 
 // each source gives its first head
-fn start<R: CoeffRing, M: Monomial, S: TermSource<R, M>>(
-    sources: &mut [S],
+fn start<R: CoeffRing, M: Monomial>(
+    ring: R,
+    sources: &mut [Source<'_, R, M>],
     coefs: &mut [R::E],
     heap: &mut ChainedHeap<M>,
     steps: &mut Steps,
-) {
+)
+    requires heads { AreHeads M.vector M.order (R.characteristic ring) M.VARS M.LIM None 0 heap.old (map R.value coefs.old) (map rest_of sources.old) }
+    requires few { length sources.old < 2 ^ 32 }
+    requires belongs { All (R.belongs (R.characteristic ring)) coefs.old }
+    requires moduli { All (λ s. modulus_of s ≡ R.characteristic ring) sources.old }
+    ensures heads { AreHeads M.vector M.order (R.characteristic ring) M.VARS M.LIM None (length sources.new) heap.new (map R.value coefs.new) (map rest_of sources.new) }
+    ensures left { left M.vector [] heap.new (map R.value coefs.new) (map rest_of sources.new) ≡ left M.vector [] heap.old (map R.value coefs.old) (map rest_of sources.old) }
+    ensures belongs { All (R.belongs (R.characteristic ring)) coefs.new }
+    ensures moduli { All (λ s. modulus_of s ≡ R.characteristic ring) sources.new }
+    ensures compares { (digits : ℕ → ℕ) (K : ℕ) → HasDigits digits → length sources.old < 2 ^ K →
+        steps.new.compares + sum_by (cost_of digits) sources.old + credit K (map rest_of sources.new) (heads_in heap.new) ≤ steps.old.compares + sum_by (cost_of digits) sources.new + credit K (map rest_of sources.old) (heads_in heap.old) }
+{
     for row in 0..sources.len() as u32 {
-        give::<R, M, S>(sources, coefs, heap, row, steps);
+        give::<R, M>(sources, coefs, heap, row, steps);
     }
 }
 
 // the sum of the heads that are taken, all at `mono`; each of their sources gives its next
 #[inline(always)]
-fn sum_heads<R: CoeffRing, M: Monomial, S: TermSource<R, M>>(
+fn sum_heads<R: CoeffRing, M: Monomial>(
     ring: R,
     mono: M,
-    sources: &mut [S],
+    sources: &mut [Source<'_, R, M>],
     coefs: &mut [R::E],
     heap: &mut ChainedHeap<M>,
     steps: &mut Steps,
-) -> Term<R, M> {
+) -> Term<R, M>
+    requires heads { AreHeads M.vector M.order (R.characteristic ring) M.VARS M.LIM (Some (M.vector mono)) (length sources.old) heap.old (map R.value coefs.old) (map rest_of sources.old) }
+    requires belongs { All (R.belongs (R.characteristic ring)) coefs.old }
+    requires moduli { All (λ s. modulus_of s ≡ R.characteristic ring) sources.old }
+    ensures heads { AreHeads M.vector M.order (R.characteristic ring) M.VARS M.LIM None (length sources.new) heap.new (map R.value coefs.new) (map rest_of sources.new) }
+    ensures mono { result.mono ≡ mono }
+    ensures sum { IsNextSum M.order (R.characteristic ring) M.VARS (left M.vector (M.vector mono) heap.old (map R.value coefs.old) (map rest_of sources.old)) (left M.vector [] heap.new (map R.value coefs.new) (map rest_of sources.new)) (term_of M.vector R.value result) }
+    ensures coef { R.belongs (R.characteristic ring) result.coef }
+    ensures fewer { length (left M.vector [] heap.new (map R.value coefs.new) (map rest_of sources.new)) + taken_rows heap.old ≡ length (left M.vector (M.vector mono) heap.old (map R.value coefs.old) (map rest_of sources.old)) }
+    ensures belongs { All (R.belongs (R.characteristic ring)) coefs.new }
+    ensures moduli { All (λ s. modulus_of s ≡ R.characteristic ring) sources.new }
+    ensures compares { (digits : ℕ → ℕ) (K : ℕ) → HasDigits digits → length sources.old < 2 ^ K →
+        steps.new.compares + sum_by (cost_of digits) sources.old + credit K (map rest_of sources.new) (heads_in heap.new) ≤ steps.old.compares + sum_by (cost_of digits) sources.new + credit K (map rest_of sources.old) (heads_in heap.old) }
+{
     let mut coef = ring.zero();
     while let Some(row) = heap.pop_taken() {
         coef = ring.add(coef, coefs[row as usize]);
-        give::<R, M, S>(sources, coefs, heap, row, steps);
+        give::<R, M>(sources, coefs, heap, row, steps);
     }
     TermOf { mono, coef }
 }
 
 // the sum of the heads at the greatest monomial, which may be zero
-fn next_sum<R: CoeffRing, M: Monomial, S: TermSource<R, M>>(
+fn next_sum<R: CoeffRing, M: Monomial>(
     ring: R,
-    sources: &mut [S],
+    sources: &mut [Source<'_, R, M>],
     coefs: &mut [R::E],
     heap: &mut ChainedHeap<M>,
     steps: &mut Steps,
-) -> Option<Term<R, M>> {
-    let mono = heap.take_top(steps)?;
-    Some(sum_heads(ring, mono, sources, coefs, heap, steps))
+) -> Option<Term<R, M>>
+    requires heads { AreHeads M.vector M.order (R.characteristic ring) M.VARS M.LIM None (length sources.old) heap.old (map R.value coefs.old) (map rest_of sources.old) }
+    requires belongs { All (R.belongs (R.characteristic ring)) coefs.old }
+    requires moduli { All (λ s. modulus_of s ≡ R.characteristic ring) sources.old }
+    ensures heads { AreHeads M.vector M.order (R.characteristic ring) M.VARS M.LIM None (length sources.new) heap.new (map R.value coefs.new) (map rest_of sources.new) }
+    ensures sum { MatchOption
+        result
+        ((left M.vector [] heap.old (map R.value coefs.old) (map rest_of sources.old) ≡ []) × (left M.vector [] heap.new (map R.value coefs.new) (map rest_of sources.new) ≡ []))
+        (λ t. IsNextSum M.order (R.characteristic ring) M.VARS (left M.vector [] heap.old (map R.value coefs.old) (map rest_of sources.old)) (left M.vector [] heap.new (map R.value coefs.new) (map rest_of sources.new)) (term_of M.vector R.value t)) }
+    ensures coef { IfSome result (λ t. R.belongs (R.characteristic ring) t.coef) }
+    ensures fewer { IfSome result (λ _. length (left M.vector [] heap.new (map R.value coefs.new) (map rest_of sources.new)) < length (left M.vector [] heap.old (map R.value coefs.old) (map rest_of sources.old))) }
+    ensures belongs { All (R.belongs (R.characteristic ring)) coefs.new }
+    ensures moduli { All (λ s. modulus_of s ≡ R.characteristic ring) sources.new }
+    ensures compares { (digits : ℕ → ℕ) (K : ℕ) → HasDigits digits → length sources.old < 2 ^ K →
+        steps.new.compares + sum_by (cost_of digits) sources.old + credit K (map rest_of sources.new) (heads_in heap.new) ≤ steps.old.compares + sum_by (cost_of digits) sources.new + credit K (map rest_of sources.old) (heads_in heap.old) }
+{
+    match heap.take_top(steps) {
+        None => None,
+        Some(mono) => Some(sum_heads(ring, mono, sources, coefs, heap, steps)),
+    }
 }
 
 // the next sum that isn't zero
-fn next_of<R: CoeffRing, M: Monomial, S: TermSource<R, M>>(
+fn next_of<R: CoeffRing, M: Monomial>(
     ring: R,
-    sources: &mut [S],
+    sources: &mut [Source<'_, R, M>],
     coefs: &mut [R::E],
     heap: &mut ChainedHeap<M>,
     steps: &mut Steps,
-) -> Option<Term<R, M>> {
+) -> Option<Term<R, M>>
+    requires heads { AreHeads M.vector M.order (R.characteristic ring) M.VARS M.LIM None (length sources.old) heap.old (map R.value coefs.old) (map rest_of sources.old) }
+    requires belongs { All (R.belongs (R.characteristic ring)) coefs.old }
+    requires moduli { All (λ s. modulus_of s ≡ R.characteristic ring) sources.old }
+    ensures heads { AreHeads M.vector M.order (R.characteristic ring) M.VARS M.LIM None (length sources.new) heap.new (map R.value coefs.new) (map rest_of sources.new) }
+    ensures next { MatchOption
+        result
+        ((terms M.order (R.characteristic ring) (left M.vector [] heap.old (map R.value coefs.old) (map rest_of sources.old)) ≡ []) × (terms M.order (R.characteristic ring) (left M.vector [] heap.new (map R.value coefs.new) (map rest_of sources.new)) ≡ []))
+        (λ t. terms M.order (R.characteristic ring) (left M.vector [] heap.old (map R.value coefs.old) (map rest_of sources.old)) ≡ term_of M.vector R.value t ∷ terms M.order (R.characteristic ring) (left M.vector [] heap.new (map R.value coefs.new) (map rest_of sources.new))) }
+    ensures coef { IfSome result (λ t. R.belongs (R.characteristic ring) t.coef) }
+    ensures belongs { All (R.belongs (R.characteristic ring)) coefs.new }
+    ensures moduli { All (λ s. modulus_of s ≡ R.characteristic ring) sources.new }
+    ensures compares { (digits : ℕ → ℕ) (K : ℕ) → HasDigits digits → length sources.old < 2 ^ K →
+        steps.new.compares + sum_by (cost_of digits) sources.old + credit K (map rest_of sources.new) (heads_in heap.new) ≤ steps.old.compares + sum_by (cost_of digits) sources.new + credit K (map rest_of sources.old) (heads_in heap.old) }
+{
     loop {
         let term = next_sum(ring, sources, coefs, heap, steps)?;
         if !ring.is_zero(term.coef) {

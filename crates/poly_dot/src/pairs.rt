@@ -1,8 +1,9 @@
 //! The pairs of a sum of products, each tested as it comes in.
 ghost use Rattle.std.specs.Prelude.{◌≡◌, ◌+◌, ◌*◌, ◌≤◌, ◌<◌, [], ◌∷◌, ◌++◌, length, map, All, MatchResult, IfOk, OnOk, OnErr};
-ghost use Rattle.sdmp_laws.specs.Poly.{terms};
-ghost use Rattle.poly_dot.specs.Sums.{dot, share, HasRoomBeside};
+ghost use Rattle.sdmp_laws.specs.Limits.{greatest_norm};
+ghost use Rattle.poly_dot.specs.Sums.{norms, HasRoomBeside};
 ghost use Rattle.poly_dot.specs.Faults.{IsRefusal};
+ghost use Rattle.poly_dot.specs.Held.{factors_of, IsOver, IsPair};
 
 use bound_check::{Bound, product_room, quotient_room};
 use canonical_terms::Poly;
@@ -104,7 +105,10 @@ impl<'a, R: CoeffRing, M: Monomial> Dot<'a, R, M> {
 
     /// The pairs, each of which has room.
     pub(crate) fn pairs(&self) -> &[Pair<'a, R, M>]
-        ensures { map factors_of result.now ≡ self.now.pairs }
+        ensures pairs { map factors_of result.now ≡ self.now.pairs }
+        ensures over { All (IsOver self.now.modulus) result.now }
+        ensures each { All (IsPair M.order self.now.modulus M.VARS M.LIM) self.now.pairs }
+        ensures fits { self.now.modulus ≡ 0 → norms self.now.pairs ≤ greatest_norm }
     {
         &self.pairs
     }

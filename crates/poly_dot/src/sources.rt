@@ -1,8 +1,8 @@
 //! Where terms come from in falling order: the merge of a product's rows, and a list.
-ghost use Rattle.std.specs.Prelude.{◌≡◌, ◌+◌, ◌≤◌, ℕ, List, [], ◌∷◌, length, drop, All, MatchOption, IfSome};
-ghost use Rattle.sdmp_laws.specs.Poly.{Term};
+ghost use Rattle.std.specs.Prelude.{◌≡◌, ◌+◌, ◌≤◌, ℕ, [], ◌∷◌, All, MatchOption, IfSome};
 ghost use Rattle.canonical_terms.specs.View.{term_of, sum_of};
-ghost use Rattle.poly_dot.specs.Heads.{HasDigits, rows_cost};
+ghost use Rattle.poly_dot.specs.Heads.{HasDigits};
+ghost use Rattle.poly_dot.specs.Sources.{modulus_of, rest_of, cost_of};
 
 use canonical_terms::Term;
 use coeff_ring::CoeffRing;
@@ -10,40 +10,6 @@ use packed_monomial::Monomial;
 use row_merge::RowMerge;
 use std::marker::Model;
 use step_count::Steps;
-
-/// A source of terms over one ring, the greatest first.
-pub trait TermSource<R: CoeffRing, M: Monomial> {
-    // the modulus of its coefficients
-    ghost modulus: { Self → ℕ };
-
-    // the terms that it has yet to give
-    ghost rest: { Self → List Term };
-
-    // what its comparisons come to so far, for the digits of numbers
-    ghost cost: { (ℕ → ℕ) → Self → ℕ };
-
-    /// The next term, and None exactly at its end. It allocates nothing.
-    fn next_term(&mut self, steps: &mut Steps) -> Option<Term<R, M>>
-        ensures modulus { modulus self.new ≡ modulus self.old }
-        ensures next { MatchOption
-            result
-            ((rest self.old ≡ []) × (rest self.new ≡ []))
-            (λ t. rest self.old ≡ term_of M.vector R.value t ∷ rest self.new) }
-        ensures belongs { IfSome result (λ t. R.belongs (modulus self.old) t.coef) }
-        ensures compares { (digits : ℕ → ℕ) → HasDigits digits → steps.new.compares + cost digits self.old ≤ steps.old.compares + cost digits self.new };
-}
-
-impl<'a, R: CoeffRing, M: Monomial> TermSource<R, M> for RowMerge<'a, R, M> {
-    ghost modulus = { λ m. m.modulus };
-
-    ghost rest = { λ m. m.rest };
-
-    ghost cost = { rows_cost };
-
-    fn next_term(&mut self, steps: &mut Steps) -> Option<Term<R, M>> {
-        self.next(steps)
-    }
-}
 
 /// A list of terms that is read from its first term on.
 ///
@@ -80,21 +46,49 @@ impl<R: CoeffRing, M: Monomial> TermReader<R, M> {
             read: 0,
         }
     }
-}
 
-impl<R: CoeffRing, M: Monomial> TermSource<R, M> for TermReader<R, M> {
-    ghost modulus = { λ r. r.modulus };
-
-    ghost rest = { λ r. r.list };
-
-    ghost cost = { λ _ _. 0 };
-
-    fn next_term(&mut self, _steps: &mut Steps) -> Option<Term<R, M>> {
+    /// The next term, and None exactly at the end. It allocates nothing.
+    pub fn next(&mut self) -> Option<Term<R, M>>
+        ensures modulus { self.new.modulus ≡ self.old.modulus }
+        ensures next { MatchOption
+            result
+            ((self.old.list ≡ []) × (self.new.list ≡ []))
+            (λ t. self.old.list ≡ term_of M.vector R.value t ∷ self.new.list) }
+        ensures belongs { IfSome result (λ t. R.belongs self.old.modulus t.coef) }
+    {
         if self.read == self.list.len() {
             return None;
         }
         let term = self.list[self.read];
         self.read += 1;
         Some(term)
+    }
+}
+
+/// A source of terms over one ring, the greatest first.
+#[derive(Drop)]
+pub enum Source<'a, R: CoeffRing, M: Monomial> {
+    /// The rows of a product.
+    Rows(RowMerge<'a, R, M>),
+    /// A list.
+    Listed(TermReader<R, M>),
+}
+
+impl<'a, R: CoeffRing, M: Monomial> Source<'a, R, M> {
+    /// The next term, and None exactly at the end. It allocates nothing.
+    #[inline(always)]
+    pub fn next(&mut self, steps: &mut Steps) -> Option<Term<R, M>>
+        ensures modulus { modulus_of self.new ≡ modulus_of self.old }
+        ensures next { MatchOption
+            result
+            ((rest_of self.old ≡ []) × (rest_of self.new ≡ []))
+            (λ t. rest_of self.old ≡ term_of M.vector R.value t ∷ rest_of self.new) }
+        ensures belongs { IfSome result (λ t. R.belongs (modulus_of self.old) t.coef) }
+        ensures compares { (digits : ℕ → ℕ) → HasDigits digits → steps.new.compares + cost_of digits self.old ≤ steps.old.compares + cost_of digits self.new }
+    {
+        match self {
+            Source::Rows(rows) => rows.next(steps),
+            Source::Listed(list) => list.next(),
+        }
     }
 }
