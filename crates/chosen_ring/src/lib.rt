@@ -66,17 +66,11 @@ impl CoeffRing for ChosenRing {
     }
 
     fn zero(&self) -> i128 {
-        match self {
-            ChosenRing::Integers => Integers.zero(),
-            ChosenRing::Residues(ring) => element(ring, ring.zero()),
-        }
+        0
     }
 
     fn one(&self) -> i128 {
-        match self {
-            ChosenRing::Integers => Integers.one(),
-            ChosenRing::Residues(ring) => element(ring, ring.one()),
-        }
+        1
     }
 
     fn is_zero(&self, a: i128) -> bool {
@@ -109,10 +103,7 @@ impl CoeffRing for ChosenRing {
     }
 
     fn no_products(&self) -> u128 {
-        match self {
-            ChosenRing::Integers => Integers.no_products(),
-            ChosenRing::Residues(ring) => ring.no_products(),
-        }
+        0
     }
 
     fn add_product(&self, sum: u128, a: i128, b: i128, steps: &mut Steps) -> u128 {
