@@ -93,7 +93,13 @@ fn refuses(rt: HostRuntime) -> Result<(), Fail> {
 }
 
 // a x^m + b x^n modulo 6
-fn residues(alloc: Global, a: u64, m: u32, b: u64, n: u32) -> Result<Poly<Residues, Packed<1>>, Fail>
+fn residues(
+    alloc: Global,
+    a: u64,
+    m: u32,
+    b: u64,
+    n: u32,
+) -> Result<Poly<Residues, Packed<1>>, Fail>
     requires { (a < 6) × (b < 6) }
     ensures { IfOk result (λ f. f.modulus ≡ 6) }
 {
@@ -148,10 +154,7 @@ fn divides_residues(rt: HostRuntime) -> Result<(), Fail> {
 }
 
 // a polynomial in two variables, by the exponents and the coefficient of each term
-fn plane(
-    alloc: Global,
-    terms: &[(u32, u32, i64)],
-) -> Result<Poly<Integers, Packed<2>>, Fail>
+fn plane(alloc: Global, terms: &[(u32, u32, i64)]) -> Result<Poly<Integers, Packed<2>>, Fail>
     ensures { IfOk result (λ f. f.modulus ≡ 0) }
 {
     let mut list = Vec::new(alloc);
@@ -165,10 +168,7 @@ fn plane(
 }
 
 // the exponents and the coefficient of each term
-fn terms_of(
-    alloc: Global,
-    f: &Poly<Integers, Packed<2>>,
-) -> Result<Vec<(u32, u32, i128)>, Fail> {
+fn terms_of(alloc: Global, f: &Poly<Integers, Packed<2>>) -> Result<Vec<(u32, u32, i128)>, Fail> {
     let mut list = Vec::new(alloc);
     for t in f.terms() {
         list.push((t.mono.exponent(0), t.mono.exponent(1), t.coef))?;
