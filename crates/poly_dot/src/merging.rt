@@ -66,9 +66,9 @@ fn rows_of<'a, R: CoeffRing, M: Monomial>(
 ) -> Result<RowMerge<'a, R, M>, NoMemory>
     requires modulus { pair.f.now.modulus ≡ pair.g.now.modulus }
     requires room { HasRoom M.LIM pair.f.now.modulus pair.f.now.list pair.g.now.list }
-    ensures modulus { IfOk result (λ m. m.modulus ≡ pair.f.now.modulus) }
-    ensures rest { IfOk result (λ m. m.rest ≡ terms M.order pair.f.now.modulus (times pair.f.now.list pair.g.now.list)) }
-    ensures canonical { IfOk result (λ m. IsCanonical M.order pair.f.now.modulus M.VARS M.LIM m.rest) }
+    ensures modulus { IfOk result (λ m. m.modulus ≡ pair.entry.f.now.modulus) }
+    ensures rest { IfOk result (λ m. m.rest ≡ terms M.order pair.entry.f.now.modulus (times pair.entry.f.now.list pair.entry.g.now.list)) }
+    ensures canonical { IfOk result (λ m. IsCanonical M.order pair.entry.f.now.modulus M.VARS M.LIM m.rest) }
     ensures counts { IfOk result (λ m. (m.made ≡ 0) × (m.entered ≡ 0)) }
 {
     if pair.f.terms().len() <= pair.g.terms().len() {

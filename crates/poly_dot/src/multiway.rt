@@ -67,8 +67,8 @@ impl<'a, R: CoeffRing, M: Monomial> MultiwayMerge<'a, R, M> {
         requires canonical { All (λ s. IsCanonical M.order (R.characteristic ring) M.VARS M.LIM (rest_of s)) sources.items }
         requires fits { R.characteristic ring ≡ 0 → norm (all_of (map rest_of sources.items)) ≤ greatest_norm }
         ensures modulus { IfOk result (λ m. m.modulus ≡ R.characteristic ring) }
-        ensures sources { IfOk result (λ m. m.sources ≡ sources.items) }
-        ensures rest { IfOk result (λ m. m.rest ≡ terms M.order (R.characteristic ring) (all_of (map rest_of sources.items))) }
+        ensures sources { IfOk result (λ m. m.sources ≡ sources.entry.items) }
+        ensures rest { IfOk result (λ m. m.rest ≡ terms M.order (R.characteristic ring) (all_of (map rest_of sources.entry.items))) }
         ensures heads { IfOk result (λ m. m.heads ≡ 0) }
     {
         let count = sources.len();

@@ -83,8 +83,8 @@ fn readers_of<'a, R: CoeffRing, M: Monomial>(
 ) -> Result<Vec<Source<'a, R, M>>, NoMemory>
     requires belongs { All (λ s. IsOfRing (R.belongs (R.characteristic ring)) s.list) shares.items }
     ensures moduli { IfOk result (λ v. All (λ s. modulus_of s ≡ R.characteristic ring) v.items) }
-    ensures count { IfOk result (λ v. length v.items ≡ length shares.items) }
-    ensures lists { IfOk result (λ v. (w : ℕ) (share : _) → w < length shares.items → IsListOf M.vector R.value (rest_at (map rest_of v.items) w) (slice_index_or shares.items w share).list) }
+    ensures count { IfOk result (λ v. length v.items ≡ length shares.entry.items) }
+    ensures lists { IfOk result (λ v. (w : ℕ) (share : _) → w < length shares.entry.items → IsListOf M.vector R.value (rest_at (map rest_of v.items) w) (slice_index_or shares.entry.items w share).list) }
 {
     let mut readers = Vec::new(alloc);
     for share in shares {
@@ -124,7 +124,7 @@ fn merged<R: CoeffRing, M: Monomial>(
     requires moduli { All (λ s. modulus_of s ≡ R.characteristic ring) readers.items }
     requires canonical { All (λ s. IsCanonical M.order (R.characteristic ring) M.VARS M.LIM (rest_of s)) readers.items }
     requires fits { R.characteristic ring ≡ 0 → norm (all_of (map rest_of readers.items)) ≤ greatest_norm }
-    ensures terms { IfOk result (λ list. sum_of M.vector R.value list.items ≡ terms M.order (R.characteristic ring) (all_of (map rest_of readers.items))) }
+    ensures terms { IfOk result (λ list. sum_of M.vector R.value list.items ≡ terms M.order (R.characteristic ring) (all_of (map rest_of readers.entry.items))) }
     ensures belongs { IfOk result (λ list. All (λ t. R.belongs (R.characteristic ring) t.coef) list.items) }
 {
     let mut merge = MultiwayMerge::new(alloc, ring, readers)?;
@@ -143,8 +143,8 @@ impl<'a, R: CoeffRing, M: Monomial> Dot<'a, R, M> {
         gate: &G,
     ) -> Result<Poly<R, M>, NoMemory>
         requires workers { 0 < workers }
-        ensures modulus { IfOk result (λ h. h.modulus ≡ self.modulus) }
-        ensures terms { IfOk result (λ h. h.list ≡ terms M.order self.modulus (dot self.pairs)) }
+        ensures modulus { IfOk result (λ h. h.modulus ≡ self.entry.modulus) }
+        ensures terms { IfOk result (λ h. h.list ≡ terms M.order self.entry.modulus (dot self.entry.pairs)) }
     {
         let most = threads_for(workers, product_count(self.pairs()));
         let ring = self.ring();
