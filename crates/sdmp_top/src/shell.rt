@@ -2,7 +2,6 @@
 ghost use Rattle.std.specs.Prelude.{◌≡◌, ◌≢◌, ◌⊎◌, ◌<◌, ◌≤◌, ℕ, [], None, Some, true, List, length, map, string_bytes};
 ghost use Rattle.calc_session.specs.Answers.{Answers, text};
 ghost use Rattle.calc_session.specs.Session.{answers};
-ghost use Rattle.sdmp_top.specs.Monomials.{packed};
 ghost use Rattle.sdmp_words.specs.Words.{settings_of};
 ghost use Rattle.sdmp_words.specs.declared.settings.Settings.{Settings};
 ghost use Rattle.calc_session.specs.Demo.{demo_input};
@@ -101,10 +100,10 @@ fn run_session<T: Threads + Sync, G: Gate, S: Source, K: Sink>(
     sink: &mut K,
 ) -> Status
     ensures answered { IsAnsweredStatus result → (input : List ℕ) → S.left source.old ≡ Some input
-        → Answered (answers packed input) result (K.held sink.old) (K.held sink.new) (K.flushed sink.new) }
+        → Answered (answers input) result (K.held sink.old) (K.held sink.new) (K.flushed sink.new) }
     ensures flushed { IsAnsweredStatus result → K.flushed sink.new ≡ true }
     ensures tallied { IsAnsweredStatus result → (input : List ℕ) → S.left source.old ≡ Some input
-        → IsTallied by.now.workers (calculations packed input) (tally_of ends.old) (tally_of ends.new) }
+        → IsTallied by.now.workers (calculations input) (tally_of ends.old) (tally_of ends.new) }
     ensures ended { IsAnsweredStatus result → (input : List ℕ) → S.left source.old ≡ Some input → S.left source.new ≡ Some [] }
     ensures words { result ≢ Status.BadWords }
     ensures read_fault { result ≡ Status.ReadFault → Rose (S.faults source.old) (S.faults source.new) (S.at_last source.new) }
@@ -114,7 +113,7 @@ fn run_session<T: Threads + Sync, G: Gate, S: Source, K: Sink>(
         → DidNotFail (S.faults source.old) (S.faults source.new) (S.at_last source.new)
         → DidNotFail (K.faults sink.old) (K.faults sink.new) (K.at_last sink.new)
         → result ≢ Status.NoMemory
-        → Answered (answers packed input) result (K.held sink.old) (K.held sink.new) (K.flushed sink.new) }
+        → Answered (answers input) result (K.held sink.old) (K.held sink.new) (K.flushed sink.new) }
     ensures longer { (input : List ℕ) → S.left source.old ≡ Some input → MAX_INPUT < length input
         → DidNotFail (S.faults source.old) (S.faults source.new) (S.at_last source.new)
         → (result ≡ Status.TooLong) ⊎ (result ≡ Status.NoMemory) }
@@ -122,11 +121,11 @@ fn run_session<T: Threads + Sync, G: Gate, S: Source, K: Sink>(
     ensures write_fault { result ≡ Status.WriteFault → Rose (K.faults sink.old) (K.faults sink.new) (K.at_last sink.new) }
     ensures sink_steady { result ≢ Status.WriteFault → K.faults sink.new ≡ K.faults sink.old }
     ensures part { result ≡ Status.WriteFault → (input : List ℕ) → S.left source.old ≡ Some input
-        → AppendsPart (K.held sink.old) (K.held sink.new) (text (answers packed input)) }
+        → AppendsPart (K.held sink.old) (K.held sink.new) (text (answers input)) }
     ensures flush_failed { result ≡ Status.WriteFault → K.flush_failed sink.new ≡ true → (input : List ℕ) → S.left source.old ≡ Some input
-        → AppendsPieces (K.held sink.old) (K.held sink.new) (answers packed input).pieces }
+        → AppendsPieces (K.held sink.old) (K.held sink.new) (answers input).pieces }
     ensures no_memory { result ≡ Status.NoMemory → (input : List ℕ) → S.left source.old ≡ Some input
-        → AppendsPieces (K.held sink.old) (K.held sink.new) (answers packed input).pieces }
+        → AppendsPieces (K.held sink.old) (K.held sink.new) (answers input).pieces }
     ensures no_memory_flushed { result ≡ Status.NoMemory → (K.flushed sink.new ≡ true) ⊎ (sink.new ≡ sink.old) }
 {
     let input = match read_all(alloc, source) {
@@ -153,7 +152,7 @@ fn run_demo<T: Threads + Sync, G: Gate, K: Sink>(
 ) -> Status
     ensures answered { IsAnsweredStatus result → Answered (demo_answers seed) result (K.held sink.old) (K.held sink.new) (K.flushed sink.new) }
     ensures flushed { IsAnsweredStatus result → K.flushed sink.new ≡ true }
-    ensures tallied { IsAnsweredStatus result → IsTallied by.now.workers (calculations packed (demo_input seed)) (tally_of ends.old) (tally_of ends.new) }
+    ensures tallied { IsAnsweredStatus result → IsTallied by.now.workers (calculations (demo_input seed)) (tally_of ends.old) (tally_of ends.new) }
     ensures told { IsAnsweredStatus result ⊎ (result ≡ Status.WriteFault) ⊎ (result ≡ Status.NoMemory) }
     ensures write_fault { result ≡ Status.WriteFault → Rose (K.faults sink.old) (K.faults sink.new) (K.at_last sink.new) }
     ensures sink_steady { result ≢ Status.WriteFault → K.faults sink.new ≡ K.faults sink.old }
