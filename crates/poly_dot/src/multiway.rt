@@ -160,22 +160,22 @@ fn give<R: CoeffRing, M: Monomial>(
     }
 }
 
-// each source gives its first head
+// each source gives its first head; the contract alone speaks of the ring
 fn start<R: CoeffRing, M: Monomial>(
-    ring: R,
+    _ring: R,
     sources: &mut [Source<'_, R, M>],
     coefs: &mut [R::E],
     heap: &mut ChainedHeap<M>,
     steps: &mut Steps,
 )
-    requires heads { AreHeads M.vector M.order (R.characteristic ring) M.VARS M.LIM None 0 heap.old (map R.value coefs.old) (map rest_of sources.old) }
+    requires heads { AreHeads M.vector M.order (R.characteristic _ring) M.VARS M.LIM None 0 heap.old (map R.value coefs.old) (map rest_of sources.old) }
     requires few { length sources.old < 2 ^ 32 }
-    requires belongs { All (R.belongs (R.characteristic ring)) coefs.old }
-    requires moduli { All (λ s. modulus_of s ≡ R.characteristic ring) sources.old }
-    ensures heads { AreHeads M.vector M.order (R.characteristic ring) M.VARS M.LIM None (length sources.new) heap.new (map R.value coefs.new) (map rest_of sources.new) }
+    requires belongs { All (R.belongs (R.characteristic _ring)) coefs.old }
+    requires moduli { All (λ s. modulus_of s ≡ R.characteristic _ring) sources.old }
+    ensures heads { AreHeads M.vector M.order (R.characteristic _ring) M.VARS M.LIM None (length sources.new) heap.new (map R.value coefs.new) (map rest_of sources.new) }
     ensures left { left M.vector [] heap.new (map R.value coefs.new) (map rest_of sources.new) ≡ left M.vector [] heap.old (map R.value coefs.old) (map rest_of sources.old) }
-    ensures belongs { All (R.belongs (R.characteristic ring)) coefs.new }
-    ensures moduli { All (λ s. modulus_of s ≡ R.characteristic ring) sources.new }
+    ensures belongs { All (R.belongs (R.characteristic _ring)) coefs.new }
+    ensures moduli { All (λ s. modulus_of s ≡ R.characteristic _ring) sources.new }
     ensures compares { (digits : ℕ → ℕ) (K : ℕ) → HasDigits digits → length sources.old < 2 ^ K →
         steps.new.compares + sum_by (cost_of digits) sources.old + credit K (map rest_of sources.new) (heads_in heap.new) ≤ steps.old.compares + sum_by (cost_of digits) sources.new + credit K (map rest_of sources.old) (heads_in heap.old) }
 {

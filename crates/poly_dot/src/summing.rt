@@ -86,10 +86,11 @@ fn readers_of<'a, R: CoeffRing, M: Monomial>(
     ensures count { IfOk result (λ v. length v.items ≡ length shares.entry.items) }
     ensures lists { IfOk result (λ v. (w : ℕ) (share : _) → w < length shares.entry.items → IsListOf M.vector R.value (rest_at (map rest_of v.items) w) (slice_index_or shares.entry.items w share).list) }
 {
-    let mut readers = Vec::new(alloc);
+    let mut readers: Vec<Source<'a, R, M>> = Vec::new(alloc);
     for share in shares {
         let Share { list, .. } = share;
-        readers.push(Source::Listed(TermReader::new(ring, list?)))?;
+        let reader = TermReader::new(ring, list?);
+        readers.push(Source::Listed(reader))?;
     }
     Ok(readers)
 }

@@ -1,0 +1,5 @@
+pub mod SumsOver
+pub mod HeadPlaces
+pub mod HeadSteps
+pub mod HeadSums
+pub mod HeadCounts
