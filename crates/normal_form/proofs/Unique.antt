@@ -1,13 +1,13 @@
 -- A polynomial has at most one normal form: the differences of two have no greatest product.
-use Rattle.std.proofs.Common.{◌≡◌, ◌≢◌, ℕ, zero, suc, ◌<◌, List, [], ◌∷◌, ◌++◌, length, get_or, ℤ, pos, ◌+ℤ◌, ◌*ℤ◌, neg_ℤ, refl, sym, ap, ap₂, ◌∙◌, subst, arith, All}
+use Rattle.std.proofs.Common.{◌≡◌, ◌≢◌, ℕ, suc, ◌<◌, List, [], ◌∷◌, ◌++◌, length, ℤ, pos, ◌+ℤ◌, ◌*ℤ◌, neg_ℤ, refl, sym, ap, ap₂, ◌∙◌, subst, arith, All}
 use Rattle.std.proofs.lemmas.Int.{ints}
 use Rattle.std.proofs.lemmas.List.Elements.{All-nil, All-cons, All-head, All-tail}
 use Rattle.sdmp_laws.specs.Order.{Order, ◌⋅◌, Divides, Below}
 use Rattle.sdmp_laws.specs.Ring.{red, IsUnit}
-use Rattle.sdmp_laws.specs.Poly.{Term, total, coef, Same, times, minus, IsPoly, terms, lm, lc}
+use Rattle.sdmp_laws.specs.Poly.{Term, total, times, minus, IsPoly, terms, lm, lc}
 use Rattle.sdmp_laws.specs.Division.{NoneDivisible}
-use Rattle.sdmp_laws.proofs.Ints.{red_add, red_neg, red_zero, zero_mul, zero_add, add_zero}
-use Rattle.sdmp_laws.proofs.OrderLemmas.{Three, is_less, is_equal, is_greater, below_total, order_facts, length_times, tail_lengths}
+use Rattle.sdmp_laws.proofs.Ints.{red_add, red_zero, zero_mul}
+use Rattle.sdmp_laws.proofs.OrderLemmas.{Three, is_less, is_equal, is_greater, below_total, order_facts, length_times}
 use Rattle.sdmp_laws.proofs.PolyLemmas.{total_append, total_minus, same_total, from_total, red_difference, red_difference_back, Same-times_left, Same-times_minus}
 use Rattle.sdmp_laws.proofs.TermsLemmas.{total_nil, total_above, below_cons, coef_head, head_facts, unique_list, terms_poly, terms_same}
 use Rattle.sdmp_laws.proofs.DivisionLemmas.{divides_times}
@@ -139,17 +139,21 @@ rest_top ord p n (t ∷ e) i =
       spared = λ l h k. k.0;
     })
 
+no_times : (g : List Term) (m : List ℕ) → total (times [] g) m ≡ pos 0
+unfolding times
+no_times g m = total_nil m
+
 no_products : (qs gs : List (List Term)) (m : List ℕ) → All (λ A. A ≡ []) qs → total (products qs gs) m ≡ pos 0
 unfolding products
 no_products [] gs m h = total_nil m
 no_products (q ∷ qs) [] m h = total_nil m
 no_products (q ∷ qs) (g ∷ gs) m h =
     total_append (times q g) (products qs gs) m
-    ∙ ap₂ ◌+ℤ◌ (ap (λ (A : List Term). total (times A g) m) (All-head (λ (A : List Term). A ≡ []) q qs h) ∙ no_times m) (no_products qs gs m (All-tail (λ (A : List Term). A ≡ []) q qs h))
-  where
-    no_times : (m : List ℕ) → total (times [] g) m ≡ pos 0
-    unfolding times
-    no_times m = total_nil m
+    ∙ ap₂ ◌+ℤ◌ (ap (λ (A : List Term). total (times A g) m) (All-head (λ (A : List Term). A ≡ []) q qs h) ∙ no_times g m) (no_products qs gs m (All-tail (λ (A : List Term). A ≡ []) q qs h))
+
+no_sum : (gs qs : List (List Term)) (e : List Term) (y : List ℕ) → All (λ A. A ≡ []) qs → e ≡ [] → sum_at gs qs e y ≡ pos 0
+unfolding sum_at
+no_sum gs qs e y h k = omega (arith, ints, no_products qs gs y h, ap (λ (A : List Term). total A y) k ∙ total_nil y)
 
 -- the sum with one more quotient
 more_sum : (q g : List Term) (qs gs : List (List Term)) (e : List Term) (m : List ℕ) → sum_at (g ∷ gs) (q ∷ qs) e m ≡ total (times q g) m +ℤ sum_at gs qs e m
@@ -158,7 +162,7 @@ more_sum q g qs gs e m = omega (arith, ints, total_append (times q g) (products 
 
 no_quotient : (g : List Term) (qs gs : List (List Term)) (e : List Term) (m : List ℕ) → sum_at (g ∷ gs) ([] ∷ qs) e m ≡ sum_at gs qs e m
 unfolding times
-no_quotient g qs gs e m = omega (arith, ints, more_sum [] g qs gs e m, total_nil m)
+no_quotient g qs gs e m = omega (arith, ints, more_sum [] g qs gs e m, no_times g m)
 
 -- a quotient that is zero changes nothing
 same_tops : (ord : Order) (p n : ℕ) (g : List Term) (gs qs : List (List Term)) (e : List Term) → Tops ord p n gs qs e → Tops ord p n (g ∷ gs) ([] ∷ qs) e
@@ -176,9 +180,6 @@ lead_left p a b u r z = sym r ∙ unit_cancels p b a (pos 0) u (z ∙ sym (red_z
 
 -- one more quotient that isn't zero
 module _ (ord : Order) (p n : ℕ) (t u : Term) (q g : List Term) (gs qs : List (List Term)) (e : List Term) where
-  lead : List ℕ
-  lead = t.monomial ⋅ u.monomial
-
   -- its leading product is the greatest
   leads : IsPoly ord p n (t ∷ q) → IsPoly ord p n (u ∷ g) → IsUnit p u.coefficient → sum_at gs qs e (t.monomial ⋅ u.monomial) ≡ pos 0 → ((y : List ℕ) → Below ord (t.monomial ⋅ u.monomial) y → sum_at gs qs e y ≡ pos 0) → IsTop ord p n ((u ∷ g) ∷ gs) ((t ∷ q) ∷ qs) e (t.monomial ⋅ u.monomial)
   unfolding NoneTaken lm
@@ -205,11 +206,7 @@ module _ (ord : Order) (p n : ℕ) (t u : Term) (q g : List Term) (gs qs : List 
   }
 
   more_tops : IsPoly ord p n (t ∷ q) → IsPoly ord p n (u ∷ g) → IsUnit p u.coefficient → NoneTaken u.monomial gs qs → NoneDivisible u.monomial e → Tops ord p n gs qs e → Tops ord p n ((u ∷ g) ∷ gs) ((t ∷ q) ∷ qs) e
-  more_tops i j v s d (nothing h k) = something (t.monomial ⋅ u.monomial) (leads i j v (none (t.monomial ⋅ u.monomial)) (λ y b. none y))
-    where
-      none : (y : List ℕ) → sum_at gs qs e y ≡ pos 0
-      unfolding sum_at
-      none y = omega (arith, ints, no_products qs gs y h, ap (λ (A : List Term). total A y) k ∙ total_nil y)
+  more_tops i j v s d (nothing h k) = something (t.monomial ⋅ u.monomial) (leads i j v (no_sum gs qs e (t.monomial ⋅ u.monomial) h k) (λ y b. no_sum gs qs e y h k))
   more_tops i j v s d (something x h) = pick (below_total ord (t.monomial ⋅ u.monomial) x (vector ∙ sym h.vector))
     where
       same_length : length t.monomial ≡ length u.monomial
@@ -223,20 +220,20 @@ module _ (ord : Order) (p n : ℕ) (t u : Term) (q g : List Term) (gs qs : List 
       pick (is_equal w) = absurd (h.spared u.monomial s d (subst (λ (m : List ℕ). Divides u.monomial m) w (divides_times t.monomial u.monomial same_length)))
       pick (is_greater b) = something (t.monomial ⋅ u.monomial) (leads i j v (h.above (t.monomial ⋅ u.monomial) b) (λ y c. h.above y ((order_facts ord).transitive x (t.monomial ⋅ u.monomial) y b c)))
 
+one_more : (ord : Order) (p n : ℕ) (gs qs : List (List Term)) (e g q : List Term) → IsDivisor ord p n g → IsPoly ord p n q → NoneTaken (lm g) gs qs → NoneDivisible (lm g) e → Tops ord p n gs qs e → Tops ord p n (g ∷ gs) (q ∷ qs) e
+unfolding lm lc
+one_more ord p n gs qs e [] q b j s v r = absurd (b.nonzero refl)
+one_more ord p n gs qs e (u ∷ g) [] b j s v r = same_tops ord p n (u ∷ g) gs qs e r
+one_more ord p n gs qs e (u ∷ g) (t ∷ q) b j s v r = more_tops ord p n t u q g gs qs e j b.poly b.unit s v r
+
 tops : (ord : Order) (p n : ℕ) (gs qs : List (List Term)) (e : List Term) → length qs ≡ length gs → All (IsDivisor ord p n) gs → All (IsPoly ord p n) qs → IsPoly ord p n e → Fits gs qs → All (λ g. NoneDivisible (lm g) e) gs → Tops ord p n gs qs e
 unfolding Fits
 tops ord p n [] [] e l a h i f d = rest_top ord p n e i
 tops ord p n [] (q ∷ qs) e l a h i f d = absurd (omega (arith, l))
 tops ord p n (g ∷ gs) [] e l a h i f d = absurd (omega (arith, l))
 tops ord p n (g ∷ gs) (q ∷ qs) e l a h i f d =
-    both g q (All-head (IsDivisor ord p n) g gs a) (All-head (IsPoly ord p n) q qs h) f.0 (All-head (λ (x : List Term). NoneDivisible (lm x) e) g gs d)
+    one_more ord p n gs qs e g q (All-head (IsDivisor ord p n) g gs a) (All-head (IsPoly ord p n) q qs h) f.0 (All-head (λ (x : List Term). NoneDivisible (lm x) e) g gs d)
     (tops ord p n gs qs e (omega (arith, l)) (All-tail (IsDivisor ord p n) g gs a) (All-tail (IsPoly ord p n) q qs h) i f.1 (All-tail (λ (x : List Term). NoneDivisible (lm x) e) g gs d))
-  where
-    both : (g q : List Term) → IsDivisor ord p n g → IsPoly ord p n q → NoneTaken (lm g) gs qs → NoneDivisible (lm g) e → Tops ord p n gs qs e → Tops ord p n (g ∷ gs) (q ∷ qs) e
-    unfolding lm lc
-    both [] q b j s v r = absurd (b.nonzero refl)
-    both (u ∷ g) [] b j s v r = same_tops ord p n (u ∷ g) gs qs e r
-    both (u ∷ g) (t ∷ q) b j s v r = more_tops ord p n t u q g gs qs e j b.poly b.unit s v r
 
 -- ---- the law
 none_divisible_terms : (l : List ℕ) (r : List Term) → NoneDivisible l r → All (λ t. Divides l t.monomial → ⊥) r

@@ -1,5 +1,5 @@
 -- What contracts see of a list of divisors and of an answer, and which faults tell what.
-use Rattle.std.specs.Prelude.{◌≡◌, ◌≢◌, ℕ, ◌+◌, ◌*◌, ◌≤◌, ℤ, List, [], ◌∷◌, map}
+use Rattle.std.specs.Prelude.{◌≡◌, ◌≢◌, ℕ, ℤ, List, []}
 use Rattle.sdmp_laws.specs.Order.{Order, degree}
 use Rattle.sdmp_laws.specs.Ring.{IsUnit, IsInverse}
 use Rattle.sdmp_laws.specs.Poly.{Term, lm, lc}

@@ -1,10 +1,9 @@
-//! The answers of a reduction, and the faults.
+//! The answer of a reduction, and why a polynomial is no divisor.
 ghost use Rattle.std.specs.Prelude.{◌≡◌, ◌<◌, length, slice_index_or};
 
 use canonical_terms::Poly;
 use coeff_ring::CoeffRing;
 use packed_monomial::Monomial;
-use std::alloc::AllocFailed;
 use std::marker::Model;
 
 /// Why a polynomial is no divisor: it is zero, its leading coefficient is no unit, or memory is wanting.
@@ -13,43 +12,6 @@ pub enum DivisorFault {
     ZeroDivisor,
     NotUnit,
     NoMemory,
-}
-
-impl<T: Drop> From<AllocFailed<T>> for DivisorFault {
-    ghost use Rattle.normal_form.specs.declared.answer.DivisorFault.TheVariants.{NoMemory};
-
-    ghost from_gives = { λ _ e. e ≡ NoMemory };
-
-    fn from(_: AllocFailed<T>) -> DivisorFault {
-        DivisorFault::NoMemory
-    }
-}
-
-/// Why a reduction is refused. Over the integers the norm of the polynomial, and for each divisor the norm of its quotient times its own, add up to more than 2^127 - 1: `divisor` is the place of the divisor, from 0, at a term of whose quotient the sum first is, the terms of all quotients taken in the order of their products with the leading monomials, the greatest first, and `term_norm` the size of the coefficient of that term. Or memory is wanting.
-#[derive(Clone, Copy, PartialEq, Eq, Debug, Drop)]
-pub enum NfFault {
-    CoefficientBound { divisor: u32, term_norm: u128 },
-    NoMemory,
-}
-
-impl From<sdmp_laws::NoMemory> for NfFault {
-    ghost use Rattle.normal_form.specs.declared.answer.NfFault.TheVariants.{NoMemory};
-
-    ghost from_gives = { λ _ e. e ≡ NoMemory };
-
-    fn from(_: sdmp_laws::NoMemory) -> NfFault {
-        NfFault::NoMemory
-    }
-}
-
-impl<T: Drop> From<AllocFailed<T>> for NfFault {
-    ghost use Rattle.normal_form.specs.declared.answer.NfFault.TheVariants.{NoMemory};
-
-    ghost from_gives = { λ _ e. e ≡ NoMemory };
-
-    fn from(_: AllocFailed<T>) -> NfFault {
-        NfFault::NoMemory
-    }
 }
 
 /// A normal form: for each divisor its quotient, in the order of the divisors, and the remainder.

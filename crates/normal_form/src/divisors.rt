@@ -84,12 +84,15 @@ impl<'a, R: CoeffRing, M: Monomial> Divisors<'a, R, M> {
         let Some(inverse) = ring.inverse(term.coef) else {
             return Err(DivisorFault::NotUnit);
         };
-        self.list.push(Divisor {
+        let Ok(()) = self.list.reserve(1) else {
+            return Err(DivisorFault::NoMemory);
+        };
+        self.list.push_reserved(Divisor {
             poly: g,
             lead: term.mono,
             degree: term.mono.degree(),
             inverse,
-        })?;
+        });
         Ok(())
     }
 }

@@ -1,4 +1,4 @@
-//! The normal form of a polynomial by a list of divisors, made on the calling thread.
+//! The normal form of a polynomial by a list of divisors: that there is at most one, and the divisors.
 #![tactic(auto)]
 
 mod answer;
@@ -6,7 +6,7 @@ mod divisors;
 
 ghost use Rattle.normal_form.specs.NormalForm.{NormalFormUnique};
 
-pub use answer::{DivisorFault, NfFault, Reduced};
+pub use answer::{DivisorFault, Reduced};
 pub use divisors::{Divisors, MOST_DIVISORS};
 
 /// At most one list of quotients and remainder are the normal form of a polynomial by divisors.
