@@ -1,5 +1,5 @@
 //! The demo: its answers are counted, and a summary is written in their place.
-ghost use Rattle.std.specs.Prelude.{◌≡◌, ◌==◌, ◌++◌, [], Some, count_by, length, sum, IfOk, OnOk};
+ghost use Rattle.std.specs.Prelude.{◌≡◌, ◌==◌, ◌++◌, [], false, Some, count_by, length, sum, IfOk, OnOk};
 ghost use Rattle.std.specs.Fmt.{decimal};
 ghost use Rattle.calc_session.specs.Session.{answers};
 ghost use Rattle.calc_session.specs.Demo.{summary, demo_input as demo_input_of};
