@@ -1,5 +1,5 @@
 -- How many comparisons the heads cost: what pays for each.
-use Rattle.std.proofs.Common.{◌≡◌, ℕ, zero, suc, ◌+◌, ◌*◌, ◌<◌, ◌≤◌, Bool, true, false, cond, List, [], ◌∷◌, length, map, set, get_or, refl, sym, ap, ◌∙◌, arith}
+use Rattle.std.proofs.Common.{◌≡◌, ℕ, ◌+◌, ◌*◌, ◌<◌, ◌≤◌, Bool, true, false, cond, List, [], ◌∷◌, length, map, set, ℤ, inl, inr, refl, ap, ◌∙◌, arith}
 use Rattle.std.specs.List.{sum_by}
 use Rattle.std.specs.declared.cmp.Ordering.{Ordering}
 use Rattle.std.specs.Ordering.{is_eq}
@@ -8,7 +8,9 @@ use Rattle.sdmp_laws.specs.Poly.{Term}
 use Rattle.chained_heap.specs.declared.node.Place.{Place}
 use Rattle.chained_heap.specs.declared.node.Place.TheVariants.{Out, In, Taken}
 use Rattle.chained_heap.specs.Shape.{place_at, is_at, bit, taken_at, count_at}
-use Rattle.poly_dot.specs.Heads.{rest_at, count_of, credit, in_heap, heads_in}
+use Rattle.row_merge.specs.Rows.{taken_rows}
+use Rattle.row_merge.proofs.Counts.{taken_in}
+use Rattle.poly_dot.specs.Heads.{in_heap, heads_in, Gives}
 
 module _ {M : Type 0} where
   pub heads_out : (places : List (Place M)) (k : ℕ) → k < length places → place_at places k ≡ Taken → heads_in (set places k Out) ≡ heads_in places
@@ -51,3 +53,12 @@ cost_chain s0 s1 s2 A B C c d e f g = omega (arith, f, g)
 -- the comparisons that take n heads out, paid by these
 pub cost_taken : (K s0 s1 s2 A B c d h i j n : ℕ) → s1 ≤ s0 + 2 * K * n → i + n ≡ h → s2 + A + (3 * K * d + 2 * K * j) ≤ s1 + B + (3 * K * c + 2 * K * i) → s2 + A + (3 * K * d + 2 * K * j) ≤ s0 + B + (3 * K * c + 2 * K * h)
 cost_taken K s0 s1 s2 A B c d h i j n e f g = omega (arith, e, g, ap (λ (q : ℕ). 2 * K * q) f)
+
+-- a head that enters the heap is not taken
+pub given_taken : {M : Type 0} (vector : M → List ℕ) (k : ℕ) (places new : List (Place M)) (coefs new_coefs : List ℤ) (rests new_rests : List (List Term)) → Gives vector k places new coefs new_coefs rests new_rests → k < length places → place_at places k ≡ Out → taken_rows new ≡ taken_rows places
+given_taken vector k places new coefs new_coefs rests new_rests (inl e) l o = ap taken_rows e.places_are
+given_taken vector k places new coefs new_coefs rests new_rests (inr g) l o = ap taken_rows g.places_are ∙ taken_in places k g.mono l o
+
+-- the same chain, where the heap after a head was put out has as many heads
+pub cost_popped : (K s0 s1 s2 A B C c d h i e : ℕ) → s1 + A + (3 * K * d + 2 * K * h) ≤ s0 + B + c → i ≡ h → s2 + B + e ≤ s1 + C + (3 * K * d + 2 * K * i) → s2 + A + e ≤ s0 + C + c
+cost_popped K s0 s1 s2 A B C c d h i e f q g = omega (arith, f, g, ap (λ (r : ℕ). 2 * K * r) q)

@@ -62,8 +62,8 @@ module _ {M : Type 0} (vector : M → List ℕ) (ord : Order) (n : ℕ) (cmp : M
       at false e = (h.0, below_if_not_equal o m x e (above m refl))
 
   none_taken : (begun : Type 0) (p : Place M) (R : List Term) → IsHead vector ord None begun p R → p ≡ Taken → ⊥
-  none_taken begun Out R h e = absurd (let f : is_taken Out ≡ is_taken Taken = ap is_taken e in true≢false (sym f))
-  none_taken begun (In m) R h e = absurd (let f : is_taken (In m) ≡ is_taken Taken = ap is_taken e in true≢false (sym f))
+  none_taken begun Out R h e = cc
+  none_taken begun (In m) R h e = cc
   none_taken begun Taken R h e = h
 
   module _ (p lim begun : ℕ) (places : List (Place M)) (coefs : List ℤ) (rests : List (List Term)) where

@@ -3,15 +3,18 @@ use Rattle.std.proofs.Common.{◌≡◌, ◌≢◌, ℕ, ◌+◌, ◌<◌, ◌�
 use Rattle.std.proofs.lemmas.Bool.{cases_eq, cases_lt, true≢false}
 use Rattle.std.proofs.lemmas.List.{length-set}
 use Rattle.sdmp_laws.specs.Order.{Order, Below, IsUnder}
-use Rattle.sdmp_laws.specs.Poly.{Term, total, norm, Over, AllBelow, AllDegrees, sum_over}
+use Rattle.sdmp_laws.specs.Poly.{Term, total, norm, Over, AllBelow, AllDegrees, sum_over, terms}
 use Rattle.sdmp_laws.specs.Canonical.{IsCanonical}
+use Rattle.sdmp_laws.specs.Limits.{greatest_norm}
 use Rattle.sdmp_laws.proofs.Parts.{norm_cons}
-use Rattle.sdmp_laws.proofs.TermsLemmas.{head_facts, tail_poly, total_cons, nothing_below, below_cons}
+use Rattle.sdmp_laws.proofs.NormLemmas.{terms_norm}
+use Rattle.sdmp_laws.proofs.DegreeLemmas.{degree_laws}
+use Rattle.sdmp_laws.proofs.TermsLemmas.{head_facts, tail_poly, total_cons, nothing_below, below_cons, terms_poly}
 use Rattle.chained_heap.specs.declared.node.Place.{Place}
 use Rattle.chained_heap.specs.declared.node.Place.TheVariants.{Out, In, Taken}
 use Rattle.chained_heap.specs.Shape.{place_at, is_taken}
-use Rattle.poly_dot.specs.Heads.{rest_at, taken_mono, piece, left_at, left, IsHead, AreHeads, HasEnded, HasGiven, Gives}
-use Rattle.poly_dot.proofs.SumsOver.{sum_over_same, size_changed, total_changed, below_over, vectors_over, norm_adds, length_adds}
+use Rattle.poly_dot.specs.Heads.{rest_at, all_of, taken_mono, piece, left_at, left, IsHead, AreHeads, HasEnded, HasGiven, Gives}
+use Rattle.poly_dot.proofs.SumsOver.{sum_over_same, size_changed, total_changed, below_over, vectors_over, degrees_over, norm_adds, length_adds}
 use Rattle.poly_dot.proofs.HeadPlaces.{coef_at}
 
 first_below : (ord : Order) (m : List ℕ) (t : Term) (A : List Term) → AllBelow ord m (t ∷ A) → Below ord t.monomial m
@@ -274,3 +277,30 @@ module _ {M : Type 0} (vector : M → List ℕ) (ord : Order) (p n lim begun : �
 
 pub left_vectors : {M : Type 0} (vector : M → List ℕ) (ord : Order) (p n lim begun : ℕ) (top : Option (List ℕ)) (places : List (Place M)) (coefs : List ℤ) (rests : List (List Term)) → AreHeads vector ord p n lim top begun places coefs rests → Over n (left vector (taken_mono top) places coefs rests)
 left_vectors vector ord p n lim begun top places coefs rests a = vectors_over ord p n (length rests) (left_at vector (taken_mono top) places coefs rests) (λ k l. (a.canonical k l).poly.vectors)
+
+-- ---- before any source has begun
+module _ {M : Type 0} (vector : M → List ℕ) (ord : Order) (p n lim : ℕ) (places : List (Place M)) (coefs : List ℤ) (rests : List (List Term)) (out : (k : ℕ) → place_at places k ≡ Out) where
+  left_new_at : (k : ℕ) → left_at vector [] places coefs rests k ≡ rest_at rests k
+  left_new_at k = ap (λ q. piece vector [] q (get_or coefs k (pos 0)) (rest_at rests k)) (out k)
+
+  pub left_new : left vector [] places coefs rests ≡ all_of rests
+  left_new = sum_over_same (length rests) (left_at vector [] places coefs rests) (rest_at rests) (λ k l. left_new_at k)
+
+  pub heads_new : length places ≡ length rests → length coefs ≡ length rests → ((k : ℕ) → k < length rests → IsCanonical ord p n lim (rest_at rests k)) → (p ≡ 0 → norm (all_of rests) ≤ greatest_norm) → AreHeads vector ord p n lim None 0 places coefs rests
+  heads_new lp lc c f = record {
+    places_count = lp;
+    coefs_count = lc;
+    placed = λ k l. subst (λ q. IsHead vector ord None (k < 0) q (rest_at rests k)) (sym (out k)) (λ b. absurd (omega (arith, b)));
+    canonical = λ k l. subst (λ L. IsCanonical ord p n lim L) (sym (left_new_at k)) (c k l);
+    fits = λ z. omega (arith, f z, ap norm left_new);
+  }
+
+-- the terms of what is left are canonical
+pub left_canonical : {M : Type 0} (vector : M → List ℕ) (ord : Order) (p n lim begun : ℕ) (places : List (Place M)) (coefs : List ℤ) (rests : List (List Term)) → AreHeads vector ord p n lim None begun places coefs rests → IsCanonical ord p n lim (terms ord p (left vector [] places coefs rests))
+left_canonical vector ord p n lim begun places coefs rests a =
+    let F = left vector [] places coefs rests in
+    record {
+      poly = terms_poly ord p n F (left_vectors vector ord p n lim begun None places coefs rests a);
+      degrees = (degree_laws ord p n).2 lim F (degrees_over lim (length rests) (left_at vector [] places coefs rests) (λ k l. (a.canonical k l).degrees));
+      norm_fits = λ z. omega (arith, ap (λ q. norm (terms ord q F)) z, terms_norm ord F, a.fits z);
+    }

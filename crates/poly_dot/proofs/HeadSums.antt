@@ -1,5 +1,6 @@
 -- The sum of the heads that are taken, head by head.
-use Rattle.std.proofs.Common.{◌≡◌, ◌≢◌, ℕ, ◌+◌, ◌<◌, ◌≤◌, Bool, true, false, cond, List, [], ◌∷◌, length, ℤ, pos, ◌+ℤ◌, unsigned_abs, Some, None, get_or, refl, sym, ap, ◌∙◌, subst, arith}
+use Rattle.std.proofs.Common.{◌≡◌, ◌≢◌, ℕ, ◌+◌, ◌<◌, ◌≤◌, Bool, true, false, cond, List, [], ◌∷◌, length, ℤ, pos, ◌+ℤ◌, unsigned_abs, Option, None, MatchOption, get_or, refl, sym, ap, ◌∙◌, subst, arith}
+use Rattle.std.proofs.Math.Path.{transport}
 use Rattle.std.proofs.lemmas.Int.{ints}
 use Rattle.sdmp_laws.specs.Order.{Order, alike}
 use Rattle.sdmp_laws.specs.Ring.{red, IsReduced}
@@ -86,3 +87,14 @@ skip_of_sum ord p n F U t a b s z = terms_skip ord p n t F U a b s.same z
 pub terms_nil : (ord : Order) (p : ℕ) → terms ord p [] ≡ []
 unfolding terms
 terms_nil ord p = refl
+
+-- ---- what an answer says of lists that are equal to those that it is known of
+pub none_matches : {X : Type 0} (A : Type 0) (B : X → Type 0) (o : Option X) → o ≡ None → A → MatchOption o A B
+none_matches A B o e a = subst (λ r. MatchOption r A B) (sym e) a
+
+-- the answer is the first term of L, and M are the others
+abbrev pub Answers : {X : Type 0} → (X → Term) → Option X → List Term → List Term → Type 0
+Answers f o L M = MatchOption o ((L ≡ []) × (M ≡ [])) (λ t. L ≡ f t ∷ M)
+
+pub answers_moved : {X : Type 0} (f : X → Term) (o : Option X) (L L' M M' : List Term) → L ≡ L' → M ≡ M' → Answers f o L M → Answers f o L' M'
+answers_moved f o L L' M M' d e a = transport (λ i. Answers f o (d i) (e i)) a

@@ -1,3 +1,4 @@
+pub mod PairLemmas
 pub mod SumsOver
 pub mod HeadPlaces
 pub mod HeadSteps

@@ -11,7 +11,6 @@ use Rattle.sdmp_laws.proofs.Parts.{norm_append, norm_nil}
 use Rattle.sdmp_laws.proofs.DivisionLemmas.{AllBelow-append}
 use Rattle.sdmp_laws.proofs.LongLemmas.{Over-append}
 use Rattle.sdmp_laws.proofs.DegreeLemmas.{degrees_append}
-use Rattle.sdmp_laws.proofs.Merging.{nil_canonical}
 
 pub sum_over_same : (n : ℕ) (F G : ℕ → List Term) → ((k : ℕ) → k < n → F k ≡ G k) → sum_over n F ≡ sum_over n G
 unfolding sum_over
@@ -28,14 +27,14 @@ module _ (size : List Term → ℕ) (adds : (A B : List Term) → size (A ++ B) 
   pub size_changed : (n k : ℕ) (F G : ℕ → List Term) (z : ℕ) → k < n → ((j : ℕ) → j < n → (j ≢ k) → F j ≡ G j) → size (F k) ≡ z + size (G k) → size (sum_over n F) ≡ z + size (sum_over n G)
   unfolding sum_over
   size_changed zero k F G z l h e = absurd (omega arith)
-  size_changed (suc n) k F G z l h e = by (cases_lt k n)
+  size_changed (suc n) k F G z l h e = by (λ a. size_changed n k F G z a (λ j b c. h j (omega arith) c) e) (cases_lt k n)
     where
-      by : (k < n) ⊎ (n ≤ k) → size (sum_over n F ++ F n) ≡ z + size (sum_over n G ++ G n)
-      by (inl a) =
-          let ih = size_changed n k F G z a (λ j b c. h j (omega arith) c) e in
+      by : (k < n → size (sum_over n F) ≡ z + size (sum_over n G)) → (k < n) ⊎ (n ≤ k) → size (sum_over n F ++ F n) ≡ z + size (sum_over n G ++ G n)
+      by below (inl a) =
+          let ih = below a in
           let s : size (F n) ≡ size (G n) = ap size (h n (omega arith) (λ q. absurd (omega (arith, q)))) in
           omega (arith, adds (sum_over n F) (F n), adds (sum_over n G) (G n), ih, s)
-      by (inr b) =
+      by below (inr b) =
           let q : k ≡ n = omega arith in
           let s : size (sum_over n F) ≡ size (sum_over n G) = ap size (sum_over_same n F G (λ j c. h j (omega arith) (λ w. absurd (omega (arith, w))))) in
           let t : size (F n) ≡ z + size (G n) = subst (λ (j : ℕ). size (F j) ≡ z + size (G j)) q e in
@@ -44,23 +43,23 @@ module _ (size : List Term → ℕ) (adds : (A B : List Term) → size (A ++ B) 
   pub size_within : (n k : ℕ) (F : ℕ → List Term) → k < n → size (F k) ≤ size (sum_over n F)
   unfolding sum_over
   size_within zero k F l = absurd (omega arith)
-  size_within (suc n) k F l = by (cases_lt k n)
+  size_within (suc n) k F l = by (λ a. size_within n k F a) (cases_lt k n)
     where
-      by : (k < n) ⊎ (n ≤ k) → size (F k) ≤ size (sum_over n F ++ F n)
-      by (inl a) = omega (arith, adds (sum_over n F) (F n), size_within n k F a)
-      by (inr b) = let q : size (F k) ≡ size (F n) = ap (λ (j : ℕ). size (F j)) (omega arith) in omega (arith, adds (sum_over n F) (F n), q)
+      by : (k < n → size (F k) ≤ size (sum_over n F)) → (k < n) ⊎ (n ≤ k) → size (F k) ≤ size (sum_over n F ++ F n)
+      by below (inl a) = omega (arith, adds (sum_over n F) (F n), below a)
+      by below (inr b) = let q : size (F k) ≡ size (F n) = ap (λ (j : ℕ). size (F j)) (omega arith) in omega (arith, adds (sum_over n F) (F n), q)
 
 pub total_changed : (n k : ℕ) (F G : ℕ → List Term) (m : List ℕ) (z : ℤ) → k < n → ((j : ℕ) → j < n → (j ≢ k) → F j ≡ G j) → total (F k) m ≡ z +ℤ total (G k) m → total (sum_over n F) m ≡ z +ℤ total (sum_over n G) m
 unfolding sum_over
 total_changed zero k F G m z l h e = absurd (omega arith)
-total_changed (suc n) k F G m z l h e = by (cases_lt k n)
+total_changed (suc n) k F G m z l h e = by (λ a. total_changed n k F G m z a (λ j b c. h j (omega arith) c) e) (cases_lt k n)
   where
-    by : (k < n) ⊎ (n ≤ k) → total (sum_over n F ++ F n) m ≡ z +ℤ total (sum_over n G ++ G n) m
-    by (inl a) =
-        let ih = total_changed n k F G m z a (λ j b c. h j (omega arith) c) e in
+    by : (k < n → total (sum_over n F) m ≡ z +ℤ total (sum_over n G) m) → (k < n) ⊎ (n ≤ k) → total (sum_over n F ++ F n) m ≡ z +ℤ total (sum_over n G ++ G n) m
+    by below (inl a) =
+        let ih = below a in
         let s : total (F n) m ≡ total (G n) m = ap (λ (L : List Term). total L m) (h n (omega arith) (λ q. absurd (omega (arith, q)))) in
         omega (arith, ints, total_append (sum_over n F) (F n) m, total_append (sum_over n G) (G n) m, ih, s)
-    by (inr b) =
+    by below (inr b) =
         let q : k ≡ n = omega arith in
         let s : total (sum_over n F) m ≡ total (sum_over n G) m = ap (λ (L : List Term). total L m) (sum_over_same n F G (λ j c. h j (omega arith) (λ w. absurd (omega (arith, w))))) in
         let t : total (F n) m ≡ z +ℤ total (G n) m = subst (λ (j : ℕ). total (F j) m ≡ z +ℤ total (G j) m) q e in
@@ -82,3 +81,8 @@ norm_adds = norm_append
 
 pub length_adds : (A B : List Term) → length (A ++ B) ≡ length A + length B
 length_adds A B = length-append A B
+
+pub degrees_over : (lim n : ℕ) (F : ℕ → List Term) → ((k : ℕ) → k < n → AllDegrees lim (F k)) → AllDegrees lim (sum_over n F)
+unfolding sum_over AllDegrees
+degrees_over lim zero F h = tt
+degrees_over lim (suc n) F h = degrees_append lim (sum_over n F) (F n) (degrees_over lim n F (λ k l. h k (omega arith))) (h n (omega arith))

@@ -6,7 +6,7 @@ ghost use Rattle.sdmp_laws.specs.Canonical.{IsCanonical};
 ghost use Rattle.canonical_terms.specs.View.{term_of, sum_of};
 ghost use Rattle.poly_dot.specs.Sums.{dot, share, norms, product_of};
 ghost use Rattle.poly_dot.specs.Sources.{modulus_of, rest_of, cost_of, IsUnread};
-ghost use Rattle.poly_dot.specs.Held.{factors_of, IsOver, IsPair};
+ghost use Rattle.poly_dot.specs.Held.{factors_of, IsOver, DegreesFit};
 ghost use Rattle.poly_dot.specs.Heads.{HasDigits, credit};
 
 use crate::multiway::MultiwayMerge;
@@ -50,6 +50,7 @@ impl<'a, R: CoeffRing, M: Monomial> Dot<'a, R, M> {
         ensures modulus { IfOk result (λ m. m.modulus ≡ self.now.modulus) }
         ensures products { IfOk result (λ m. map rest_of m.sources ≡ map (product_of M.order self.now.modulus) (share workers worker 0 self.now.pairs)) }
         ensures rest { IfOk result (λ m. m.rest ≡ terms M.order self.now.modulus (dot (share workers worker 0 self.now.pairs))) }
+        ensures canonical { IfOk result (λ m. IsCanonical M.order self.now.modulus M.VARS M.LIM m.rest) }
         ensures counts { IfOk result (λ m. (m.heads ≡ 0) × All IsUnread m.sources) }
     {
         let ring = self.ring();
@@ -109,7 +110,7 @@ fn sources_of<'a, R: CoeffRing, M: Monomial>(
 ) -> Result<Vec<Source<'a, R, M>>, NoMemory>
     requires worker { worker < workers }
     requires over { All (IsOver (R.characteristic ring)) pairs.now }
-    requires each { All (IsPair M.order (R.characteristic ring) M.VARS M.LIM) (map factors_of pairs.now) }
+    requires each { All (DegreesFit M.LIM) (map factors_of pairs.now) }
     requires fits { R.characteristic ring ≡ 0 → norms (map factors_of pairs.now) ≤ greatest_norm }
     ensures moduli { IfOk result (λ v. All (λ s. modulus_of s ≡ R.characteristic ring) v.items) }
     ensures canonical { IfOk result (λ v. All (λ s. IsCanonical M.order (R.characteristic ring) M.VARS M.LIM (rest_of s)) v.items) }

@@ -1,11 +1,10 @@
 //! The merge of several sources of terms by a heap of their heads.
-ghost use Rattle.std.specs.Prelude.{◌≡◌, ◌≢◌, ◌+◌, ◌*◌, ◌^◌, ◌≤◌, ◌<◌, ℕ, Bool, true, false, [], ◌∷◌, length, map, sum_by, All, IfOk, IfSome, MatchOption, Some, None, slice_index_or, option_map, pos};
+ghost use Rattle.std.specs.Prelude.{◌≡◌, ◌+◌, ◌^◌, ◌≤◌, ◌<◌, ℕ, cond, [], ◌∷◌, length, map, sum_by, All, IfOk, IfSome, MatchOption, Some, None, slice_index_or};
 ghost use Rattle.sdmp_laws.specs.Poly.{norm, terms};
 ghost use Rattle.sdmp_laws.specs.Limits.{greatest_norm};
 ghost use Rattle.sdmp_laws.specs.Canonical.{IsCanonical};
 ghost use Rattle.canonical_terms.specs.View.{term_of, sum_of};
 ghost use Rattle.chained_heap.specs.declared.node.Place.{Place};
-ghost use Rattle.chained_heap.specs.Shape.{no_row};
 ghost use Rattle.row_merge.specs.Rows.{taken_rows};
 ghost use Rattle.poly_dot.specs.Sources.{modulus_of, rest_of, cost_of};
 ghost use Rattle.poly_dot.specs.Heads.{HasDigits, credit, all_of, left, heads_in, AreHeads, Gives, IsNextSum};
@@ -69,6 +68,7 @@ impl<'a, R: CoeffRing, M: Monomial> MultiwayMerge<'a, R, M> {
         ensures modulus { IfOk result (λ m. m.modulus ≡ R.characteristic ring) }
         ensures sources { IfOk result (λ m. m.sources ≡ sources.entry.items) }
         ensures rest { IfOk result (λ m. m.rest ≡ terms M.order (R.characteristic ring) (all_of (map rest_of sources.entry.items))) }
+        ensures canonical { IfOk result (λ m. IsCanonical M.order (R.characteristic ring) M.VARS M.LIM m.rest) }
         ensures heads { IfOk result (λ m. m.heads ≡ 0) }
     {
         let count = sources.len();
@@ -101,18 +101,11 @@ impl<'a, R: CoeffRing, M: Monomial> MultiwayMerge<'a, R, M> {
             steps.new.compares + sum_by (cost_of digits) self.old.sources + credit (digits (length self.old.sources)) (map rest_of self.new.sources) self.new.heads
             ≤ steps.old.compares + sum_by (cost_of digits) self.new.sources + credit (digits (length self.old.sources)) (map rest_of self.old.sources) self.old.heads }
     {
-        if !self.begun {
-            self.begun = true;
-            start(
-                self.ring,
-                &mut self.sources,
-                &mut self.coefs,
-                &mut self.heap,
-                steps,
-            );
-        }
-        next_of(
+        let begun = self.begun;
+        self.begun = true;
+        advance(
             self.ring,
+            begun,
             &mut self.sources,
             &mut self.coefs,
             &mut self.heap,
@@ -160,15 +153,16 @@ fn give<R: CoeffRing, M: Monomial>(
     }
 }
 
-// each source gives its first head; the contract alone speaks of the ring
+// each source gives its first head, unless they have begun; the contract alone speaks of the ring
 fn start<R: CoeffRing, M: Monomial>(
     _ring: R,
+    begun: bool,
     sources: &mut [Source<'_, R, M>],
     coefs: &mut [R::E],
     heap: &mut ChainedHeap<M>,
     steps: &mut Steps,
 )
-    requires heads { AreHeads M.vector M.order (R.characteristic _ring) M.VARS M.LIM None 0 heap.old (map R.value coefs.old) (map rest_of sources.old) }
+    requires heads { AreHeads M.vector M.order (R.characteristic _ring) M.VARS M.LIM None (cond begun (length sources.old) 0) heap.old (map R.value coefs.old) (map rest_of sources.old) }
     requires few { length sources.old < 2 ^ 32 }
     requires belongs { All (R.belongs (R.characteristic _ring)) coefs.old }
     requires moduli { All (λ s. modulus_of s ≡ R.characteristic _ring) sources.old }
@@ -179,6 +173,9 @@ fn start<R: CoeffRing, M: Monomial>(
     ensures compares { (digits : ℕ → ℕ) (K : ℕ) → HasDigits digits → length sources.old < 2 ^ K →
         steps.new.compares + sum_by (cost_of digits) sources.old + credit K (map rest_of sources.new) (heads_in heap.new) ≤ steps.old.compares + sum_by (cost_of digits) sources.new + credit K (map rest_of sources.old) (heads_in heap.old) }
 {
+    if begun {
+        return;
+    }
     for row in 0..sources.len() as u32 {
         give::<R, M>(sources, coefs, heap, row, steps);
     }
@@ -272,4 +269,32 @@ fn next_of<R: CoeffRing, M: Monomial>(
             return Some(term);
         }
     }
+}
+
+// the next term, after the sources have begun
+fn advance<R: CoeffRing, M: Monomial>(
+    ring: R,
+    begun: bool,
+    sources: &mut [Source<'_, R, M>],
+    coefs: &mut [R::E],
+    heap: &mut ChainedHeap<M>,
+    steps: &mut Steps,
+) -> Option<Term<R, M>>
+    requires heads { AreHeads M.vector M.order (R.characteristic ring) M.VARS M.LIM None (cond begun (length sources.old) 0) heap.old (map R.value coefs.old) (map rest_of sources.old) }
+    requires few { length sources.old < 2 ^ 32 }
+    requires belongs { All (R.belongs (R.characteristic ring)) coefs.old }
+    requires moduli { All (λ s. modulus_of s ≡ R.characteristic ring) sources.old }
+    ensures heads { AreHeads M.vector M.order (R.characteristic ring) M.VARS M.LIM None (length sources.new) heap.new (map R.value coefs.new) (map rest_of sources.new) }
+    ensures next { MatchOption
+        result
+        ((terms M.order (R.characteristic ring) (left M.vector [] heap.old (map R.value coefs.old) (map rest_of sources.old)) ≡ []) × (terms M.order (R.characteristic ring) (left M.vector [] heap.new (map R.value coefs.new) (map rest_of sources.new)) ≡ []))
+        (λ t. terms M.order (R.characteristic ring) (left M.vector [] heap.old (map R.value coefs.old) (map rest_of sources.old)) ≡ term_of M.vector R.value t ∷ terms M.order (R.characteristic ring) (left M.vector [] heap.new (map R.value coefs.new) (map rest_of sources.new))) }
+    ensures coef { IfSome result (λ t. R.belongs (R.characteristic ring) t.coef) }
+    ensures belongs { All (R.belongs (R.characteristic ring)) coefs.new }
+    ensures moduli { All (λ s. modulus_of s ≡ R.characteristic ring) sources.new }
+    ensures compares { (digits : ℕ → ℕ) (K : ℕ) → HasDigits digits → length sources.old < 2 ^ K →
+        steps.new.compares + sum_by (cost_of digits) sources.old + credit K (map rest_of sources.new) (heads_in heap.new) ≤ steps.old.compares + sum_by (cost_of digits) sources.new + credit K (map rest_of sources.old) (heads_in heap.old) }
+{
+    start(ring, begun, sources, coefs, heap, steps);
+    next_of(ring, sources, coefs, heap, steps)
 }

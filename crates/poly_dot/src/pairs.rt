@@ -1,9 +1,11 @@
 //! The pairs of a sum of products, each tested as it comes in.
-ghost use Rattle.std.specs.Prelude.{◌≡◌, ◌+◌, ◌*◌, ◌≤◌, ◌<◌, [], ◌∷◌, ◌++◌, length, map, All, MatchResult, IfOk, OnOk, OnErr};
-ghost use Rattle.sdmp_laws.specs.Limits.{greatest_norm};
+ghost use Rattle.std.specs.Prelude.{◌≡◌, ◌+◌, ◌*◌, ◌≤◌, ◌<◌, [], ◌∷◌, ◌++◌, length, map, All, MatchResult, MatchOption, OnOk, OnErr};
+ghost use Rattle.sdmp_laws.specs.Order.{degree};
+ghost use Rattle.sdmp_laws.specs.Poly.{lm};
+ghost use Rattle.sdmp_laws.specs.Limits.{greatest_norm, IsDegreeOver};
 ghost use Rattle.poly_dot.specs.Sums.{norms, HasRoomBeside};
 ghost use Rattle.poly_dot.specs.Faults.{IsRefusal};
-ghost use Rattle.poly_dot.specs.Held.{factors_of, IsOver, IsPair};
+ghost use Rattle.poly_dot.specs.Held.{factors_of, IsOver, DegreesFit};
 
 use bound_check::{Bound, product_room, quotient_room};
 use canonical_terms::Poly;
@@ -50,7 +52,7 @@ impl<'a, R: CoeffRing, M: Monomial> Model for Dot<'a, R, M> {
 
     ghost view = { λ d. record { modulus = R.characteristic d.ring; pairs = map factors_of d.pairs.items } };
 
-    ghost invariant = { λ d. ArePairs M.order (R.characteristic d.ring) M.VARS M.LIM d.held (map factors_of d.pairs.items) × All (IsOver (R.characteristic d.ring)) d.pairs.items };
+    ghost invariant = { λ d. ArePairs (R.characteristic d.ring) M.LIM d.held (map factors_of d.pairs.items) × All (IsOver (R.characteristic d.ring)) d.pairs.items };
 }
 
 impl<'a, R: CoeffRing, M: Monomial> Dot<'a, R, M> {
@@ -77,22 +79,19 @@ impl<'a, R: CoeffRing, M: Monomial> Dot<'a, R, M> {
         ensures added { OnOk result (self.new ≡ record self.old { pairs = self.old.pairs ++ record { f = f.now.list; g = g.now.list } ∷ [] }) }
         ensures refused { OnErr result (self.new ≡ self.old) }
     {
-        if let Err(Bound::Degree { sum }) = product_room(f, g) {
+        if let Some(sum) = degree_over(f, g) {
             return Err(DotFault::DegreeBound { sum });
         }
         let left = f.norm();
         let right = g.norm();
-        let integers = self.ring.modulus() == 0;
         let held = self.held;
-        if integers && !quotient_room(held, left, right) {
+        let Some(more) = sum_within(self.ring, held, left, right) else {
             return Err(DotFault::CoefficientBound { held, left, right });
-        }
-        if self.pairs.push(Pair { f, g }).is_err() {
+        };
+        let Ok(()) = self.pairs.push(Pair { f, g }) else {
             return Err(DotFault::NoMemory);
-        }
-        if integers {
-            self.held = held + left * right;
-        }
+        };
+        self.held = more;
         Ok(())
     }
 
@@ -107,9 +106,41 @@ impl<'a, R: CoeffRing, M: Monomial> Dot<'a, R, M> {
     pub(crate) fn pairs(&self) -> &[Pair<'a, R, M>]
         ensures pairs { map factors_of result.now ≡ self.now.pairs }
         ensures over { All (IsOver self.now.modulus) result.now }
-        ensures each { All (IsPair M.order self.now.modulus M.VARS M.LIM) self.now.pairs }
+        ensures each { All (DegreesFit M.LIM) self.now.pairs }
         ensures fits { self.now.modulus ≡ 0 → norms self.now.pairs ≤ greatest_norm }
     {
         &self.pairs
+    }
+}
+
+// the sum of the degrees, where it is above the limit
+fn degree_over<R: CoeffRing, M: Monomial>(f: &Poly<R, M>, g: &Poly<R, M>) -> Option<u64>
+    requires { f.now.modulus ≡ g.now.modulus }
+    ensures { MatchOption
+        result
+        (IsDegreeOver M.LIM f.now.list g.now.list → ⊥)
+        (λ sum. IsDegreeOver M.LIM f.now.list g.now.list × sum ≡ degree (lm f.now.list) + degree (lm g.now.list)) }
+{
+    match product_room(f, g) {
+        Err(Bound::Degree { sum }) => Some(sum),
+        Err(Bound::Coefficient { .. }) => None,
+        Ok(()) => None,
+    }
+}
+
+// the sum held with one more product of norms, and None exactly where over the integers it is above 2^127 - 1; over another ring nothing is held
+fn sum_within<R: CoeffRing>(ring: R, held: u128, left: u128, right: u128) -> Option<u128>
+    ensures { MatchOption
+        result
+        ((R.characteristic ring ≡ 0) × greatest_norm < held + left * right)
+        (λ more. R.characteristic ring ≡ 0 → (more ≡ held + left * right) × held + left * right ≤ greatest_norm) }
+{
+    if ring.modulus() != 0 {
+        return Some(0);
+    }
+    if quotient_room(held, left, right) {
+        Some(held + left * right)
+    } else {
+        None
     }
 }

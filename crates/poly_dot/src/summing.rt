@@ -42,6 +42,7 @@ fn shares_of<'a, R: CoeffRing, M: Monomial>(
     requires workers { 0 < workers }
     ensures count { IfOk result (λ v. length v.items ≡ workers) }
     ensures moduli { IfOk result (λ v. All (λ s. s.merge.modulus ≡ dot.now.modulus) v.items) }
+    ensures canonical { IfOk result (λ v. All (λ s. IsCanonical M.order dot.now.modulus M.VARS M.LIM s.merge.rest) v.items) }
     ensures rests { IfOk result (λ v. AreParts M.order dot.now.modulus workers dot.now.pairs (map (λ s. s.merge.rest) v.items)) }
 {
     let mut shares = Vec::new(alloc);
@@ -126,6 +127,7 @@ fn merged<R: CoeffRing, M: Monomial>(
     requires canonical { All (λ s. IsCanonical M.order (R.characteristic ring) M.VARS M.LIM (rest_of s)) readers.items }
     requires fits { R.characteristic ring ≡ 0 → norm (all_of (map rest_of readers.items)) ≤ greatest_norm }
     ensures terms { IfOk result (λ list. sum_of M.vector R.value list.items ≡ terms M.order (R.characteristic ring) (all_of (map rest_of readers.entry.items))) }
+    ensures canonical { IfOk result (λ list. IsCanonical M.order (R.characteristic ring) M.VARS M.LIM (sum_of M.vector R.value list.items)) }
     ensures belongs { IfOk result (λ list. All (λ t. R.belongs (R.characteristic ring) t.coef) list.items) }
 {
     let mut merge = MultiwayMerge::new(alloc, ring, readers)?;

@@ -37,10 +37,10 @@ returns-in-Some-clause-compares g c = λ digits K known b.
     let d = c.index-sources-at.result in
     let at = get_or c.args.sources.now c.args.row c.index-sources-at.result in
     let cost : sum_by (cost_of digits) (set c.args.sources.now c.args.row c.next.new.self) + cost_of digits at ≡ sum_by (cost_of digits) c.args.sources.now + cost_of digits c.next.new.self =
-        sum_by-set (cost_of digits) c.args.sources.now c.args.row c.next.new.self d c.requires.within in
+    sum_by-set (cost_of digits) c.args.sources.now c.args.row c.next.new.self d c.requires.within in
     let count : count_of (map rest_of (set c.args.sources.now c.args.row c.next.new.self)) + length (rest_of at) ≡ count_of (map rest_of c.args.sources.now) + length (rest_of c.next.new.self) =
-        (λ i. count_of (map-set rest_of c.args.sources.now c.args.row c.next.new.self i) + length (sym (get_or-map rest_of c.args.sources.now c.args.row d [] c.requires.within) i))
-        ∙ sum_by-set length (map rest_of c.args.sources.now) c.args.row (rest_of c.next.new.self) [] (omega (arith, c.requires.within, length-map c.args.sources.now rest_of)) in
+    (λ i. count_of (map-set rest_of c.args.sources.now c.args.row c.next.new.self i) + length (sym (get_or-map rest_of c.args.sources.now c.args.row d [] c.requires.within) i))
+    ∙ sum_by-set length (map rest_of c.args.sources.now) c.args.row (rest_of c.next.new.self) [] (omega (arith, c.requires.within, length-map c.args.sources.now rest_of)) in
     let heads = ap heads_in c.insert.ensures.places ∙ heads_more c.args.heap.now c.args.row c.in-Some.term.mono (omega (arith, c.requires.within, c.requires.heap)) c.requires.out in
     cost_given K c.args.steps.now.compares c.next.new.steps.compares c.insert.new.steps.compares (cost_of digits at) (cost_of digits c.next.new.self) (sum_by (cost_of digits) (set c.args.sources.now c.args.row c.next.new.self)) (sum_by (cost_of digits) c.args.sources.now)
     (count_of (map rest_of c.args.sources.now)) (count_of (map rest_of (set c.args.sources.now c.args.row c.next.new.self))) (heads_in c.args.heap.now) (heads_in c.insert.new.self)
@@ -65,10 +65,10 @@ returns-in_default-clause-compares g c = λ digits K known b.
     let d = c.index-sources-at.result in
     let at = get_or c.args.sources.now c.args.row c.index-sources-at.result in
     let cost : sum_by (cost_of digits) (set c.args.sources.now c.args.row c.next.new.self) + cost_of digits at ≡ sum_by (cost_of digits) c.args.sources.now + cost_of digits c.next.new.self =
-        sum_by-set (cost_of digits) c.args.sources.now c.args.row c.next.new.self d c.requires.within in
+    sum_by-set (cost_of digits) c.args.sources.now c.args.row c.next.new.self d c.requires.within in
     let count : count_of (map rest_of (set c.args.sources.now c.args.row c.next.new.self)) + length (rest_of at) ≡ count_of (map rest_of c.args.sources.now) + length (rest_of c.next.new.self) =
-        (λ i. count_of (map-set rest_of c.args.sources.now c.args.row c.next.new.self i) + length (sym (get_or-map rest_of c.args.sources.now c.args.row d [] c.requires.within) i))
-        ∙ sum_by-set length (map rest_of c.args.sources.now) c.args.row (rest_of c.next.new.self) [] (omega (arith, c.requires.within, length-map c.args.sources.now rest_of)) in
+    (λ i. count_of (map-set rest_of c.args.sources.now c.args.row c.next.new.self i) + length (sym (get_or-map rest_of c.args.sources.now c.args.row d [] c.requires.within) i))
+    ∙ sum_by-set length (map rest_of c.args.sources.now) c.args.row (rest_of c.next.new.self) [] (omega (arith, c.requires.within, length-map c.args.sources.now rest_of)) in
     cost_ended K c.args.steps.now.compares c.next.new.steps.compares (cost_of digits at) (cost_of digits c.next.new.self) (sum_by (cost_of digits) (set c.args.sources.now c.args.row c.next.new.self)) (sum_by (cost_of digits) c.args.sources.now)
     (count_of (map rest_of c.args.sources.now)) (count_of (map rest_of (set c.args.sources.now c.args.row c.next.new.self))) (heads_in c.args.heap.now)
     (c.in_default.ensures.compares digits known) cost (omega (arith, count, ap length c.in_default.ensures.next.0, ap length c.in_default.ensures.next.1))
