@@ -43,11 +43,3 @@ alone ord p n f h =
 pub one_is : terms Grlex 0 (record { monomial = 0 ∷ []; coefficient = pos 1 } ∷ []) ≡ record { monomial = zeros 1; coefficient = pos 1 } ∷ []
 unfolding terms put keep is_zero zeros
 one_is = refl
-
-pub unit_is : (n : ℕ) → terms Grlex 0 (record { monomial = zeros n; coefficient = pos 1 } ∷ []) ≡ record { monomial = zeros n; coefficient = pos 1 } ∷ []
-unfolding terms put keep is_zero
-unit_is n = refl
-
-pub two_zeros : zeros 2 ≡ 0 ∷ 0 ∷ []
-unfolding zeros
-two_zeros = refl

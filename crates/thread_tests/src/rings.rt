@@ -16,10 +16,6 @@ use std::test::Fail;
 use std::thread;
 use std::thread::Threads;
 use term_ring::{Empty, Note, NoteOf, Reader, Ring, Script, Writer};
-use wide_monomial::Wide;
-
-// a coefficient both of whose words have set bits
-const LONG: i128 = 3 - (1 << 100);
 
 // all terms, and the end
 fn whole_list<R: CoeffRing, M: Monomial>(
@@ -193,41 +189,6 @@ fn full_at_the_third_push(rt: HostRuntime) -> Result<(), Fail> {
     };
     reader.meet(&ring, &mut writer);
     writer.meet(&ring, &mut reader);
-    Ok(())
-}
-
-#[test]
-fn a_term_of_two_high_words(rt: HostRuntime) -> Result<(), Fail> {
-    let alloc = rt.alloc();
-    let zero = Wide::<2>::pack(&[0, 0])?;
-    let high = Wide::<2>::pack(&[3, 1])?;
-    let unit = [TermOf {
-        mono: zero,
-        coef: 1,
-    }];
-    let long = [TermOf {
-        mono: high,
-        coef: LONG,
-    }];
-    let f = Poly::<Integers, Wide<2>>::from_terms(alloc, Integers, long.to_vec(alloc)?)?;
-    let g = Poly::<Integers, Wide<2>>::from_terms(alloc, Integers, unit.to_vec(alloc)?)?;
-    let script = Script::Product {
-        f: &f,
-        g: &g,
-        workers: 1,
-        worker: 0,
-    };
-    let made = Ring::new(alloc, Integers, 2, &script)?;
-    let (ring, mut writer, mut reader) = made;
-    let list = whole_list::<Integers, Wide<2>>(alloc, f.terms())?;
-    let sent = push_from(&mut writer, &ring, &list, 0);
-    assert_eq!(rt; sent, 2);
-    let Ok(NoteOf::Term(t)) = reader.pop(&ring) else {
-        panic!(rt; "the term")
-    };
-    assert_eq!(rt; t.mono.to_words(), [13194139533313, 4194304]);
-    assert_eq!(rt; t.coef, LONG);
-    assert!(rt; matches!(reader.pop(&ring), Ok(NoteOf::End)));
     Ok(())
 }
 
