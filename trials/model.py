@@ -19,7 +19,8 @@ sys.set_int_max_str_digits(0)
 
 H = 2 ** 127 - 1
 LONGEST = 67108864
-LIMITS = {1: 2147483647, 2: 1048575, 3: 32767, 4: 2047, 5: 511, 6: 255, 7: 127}
+LIMITS = {1: 2147483647, 2: 2147483647, 3: 2147483647, 4: 16777215, 5: 1048575, 6: 131071, 7: 32767, 8: 8191,
+          9: 2047, 10: 1023, 11: 511, 12: 255, 13: 255, 14: 127, 15: 127}
 RESERVED = b'vars ring order show mul div rem dot nf'.split()
 ARGUMENTS = {b'show': 1, b'mul': 2, b'div': 2, b'rem': 2}
 RANGES = {b'--workers': (1, 64), b'--places': (2, 65536), b'--demo': (0, 2 ** 64 - 1)}
@@ -206,7 +207,7 @@ def variables(words):
     if words[:1] != [b'vars']:
         raise Fault('vars expected')
     names = words[1:]
-    if not 1 <= len(names) <= 7:
+    if not 1 <= len(names) <= 15:
         raise Fault('variable count')
     for i, name in enumerate(names):
         check_name(name)
@@ -233,10 +234,20 @@ def modulus_of(words):
     return int(words[2])
 
 
+def chooses_order(line, words):
+    """Whether the third line chooses the order, of which there is one."""
+    if b'=' in line or words[0] != b'order':
+        return False
+    if words != [b'order', b'grlex']:
+        raise Fault('bad order')
+    return True
+
+
 class Session:
     def __init__(self, turns):
         self.turns = turns
         self.names = self.modulus = None
+        self.ordered = False
         self.defined = {}
 
     def line(self, line):
@@ -246,11 +257,18 @@ class Session:
             self.names = variables(words)
         elif self.modulus is None:
             self.modulus = modulus_of(words)
-        elif b'=' in line:
-            self.define(line)
+        elif self.ordered or not chooses_order(line, words):
+            self.ordered = True
+            return self.body(line, words)
         else:
-            return self.command(words)
+            self.ordered = True
         return []
+
+    def body(self, line, words):
+        if b'=' in line:
+            self.define(line)
+            return []
+        return self.command(words)
 
     def define(self, line):
         before, _, text = line.partition(b'=')

@@ -25,15 +25,18 @@ from shared import program
 BATCH = 500
 TURNS = 400
 
-NAMES = b'x y z t u v w _ none x1 Xy_2 vars2 aVeryLongNameOfThirtyTwoLetters_'.split()
+NAMES = b'x y z t u v w _ none x1 x2 x3 x4 x5 x6 orders Xy_2 vars2 aVeryLongNameOfThirtyTwoLetters_'.split()
 MODULI = [2, 3, 4, 5, 6, 12, 97, 2 ** 31 - 1, 2 ** 32, 2 ** 61 - 1, 2 ** 63, 2 ** 63 + 1, 2 ** 64 - 59, 2 ** 64 - 2, 2 ** 64 - 1]
-WRONG_HEADS = [b'', b'vars', b'var x', b'vars 1x', b'vars x x', b'vars x mul', b'vars ring 1', b'vars a b c d e f g h', b'vars x-y',
-               b'vars x=', b'vars ' + b'n' * 33, b'vars _ __ _', b'ring Z', b'x = 1', b'vars\fx', b'vars x\r', b'vars \xe9', b'vars h 1 1 1 1 1 1 1']
+WRONG_HEADS = [b'', b'vars', b'var x', b'vars 1x', b'vars x x', b'vars x mul', b'vars ring 1', b'vars a b c d e f g h i j k l m n o p', b'vars x-y',
+               b'vars x=', b'vars ' + b'n' * 33, b'vars _ __ _', b'ring Z', b'x = 1', b'vars\fx', b'vars x\r', b'vars \xe9', b'vars h' + b' 1' * 15]
 WRONG_RINGS = [b'', b'ring', b'ring z', b'ring Z Z', b'ring mod', b'ring mod 5 5', b'ring mod 0', b'ring mod 1', b'ring mod -5', b'ring mod +5',
                b'ring mod 5a', b'ring mod 18446744073709551616', b'ring mod 99999999999999999999999', b'ring mod 0x5', b'Ring Z', b'ring Z=', b'a = 1',
                b'ring mod ' + b'0' * 40 + b'1', b'ring mod 5\r', b'ring mod =', b'vars x', b'ring\tmod 1']
+ORDERS = [b'order grlex', b' order\tgrlex ']
+WRONG_ORDERS = [b'order', b'order lex', b'order grevlex', b'order grlex grlex', b'order Grlex', b'order grlex\r', b'order\fgrlex', b'Order grlex', b'order = 1', b'order grlex=',
+                b'grlex', b'orders', b'order #']
 WRONG_NAMES = [b'', b'1a', b'a b', b'a-', b'\xe9', b'n' * 33, b'vars', b'ring', b'order', b'show', b'mul', b'div', b'rem', b'dot', b'nf', b'a\r', b'#a']
-WRONG_LINES = [b'show', b'show a b', b'show q', b'mul a', b'mul a b a', b'mul a q', b'mul q', b'div', b'div q a', b'rem a', b'rem q q', b'order a',
+WRONG_LINES = [b'show', b'show a b', b'show q', b'mul a', b'mul a b a', b'mul a q', b'mul q', b'div', b'div q a', b'rem a', b'rem q q', b'order a', b'order grlex',
                b'dot a b', b'nf a', b'vars x', b'ring Z', b'Show a', b'show\fa', b'showa', b'show a\r', b'a', b'+', b'mul\ta\tb\tb', b'show x']
 SPELLINGS = b'0123456789xyztw_+-*^^** \t=()./\r\f\0#\xff'
 
@@ -58,7 +61,7 @@ class Maker:
     def __init__(self, draw, kind):
         self.draw = draw
         self.kind = kind
-        self.names = draw.sample(NAMES, draw.choice((1, 1, 2, 2, 3, 3, 4, 5, 6, 7)))
+        self.names = draw.sample(NAMES, draw.choice((1, 1, 2, 2, 3, 3, 4, 5, 6, 7, draw.randint(8, 15))))
         self.limit = model.LIMITS[len(self.names)]
         residues = kind == 'residues' or draw.random() < 0.3
         self.modulus = draw.choice(MODULI + [draw.randint(2, 2 ** 64 - 1)]) if residues else 0
@@ -152,19 +155,23 @@ class Maker:
     def lines(self):
         head = b'vars ' + b' '.join(self.names)
         ring = b'ring mod %d' % self.modulus if self.modulus else b'ring Z'
+        order = [self.draw.choice(ORDERS)] if self.draw.random() < 0.3 else []
         body = self.body()
         at = self.draw.randrange(len(body) + 1)
         if self.kind == 'headers':
-            if self.draw.random() < 0.5:
+            wrong = self.draw.randrange(5)
+            if wrong < 2:
                 head = self.draw.choice(WRONG_HEADS)
-            else:
+            elif wrong < 4:
                 ring = self.draw.choice(WRONG_RINGS)
+            else:
+                order = [self.draw.choice(WRONG_ORDERS)]
         elif self.kind == 'texts':
             body = [self.broken(line) if b'=' in line and self.draw.random() < 0.3 else line for line in body]
         elif self.kind == 'names':
             name = self.draw.choice(WRONG_NAMES + self.names)
             body.insert(at, self.draw.choice(WRONG_LINES + [name + b' = x', b'n = 2*' + name + b'+1', b'show ' + name]))
-        return [head, ring] + body
+        return [head, ring] + order + body
 
     def session(self):
         lines = self.lines()

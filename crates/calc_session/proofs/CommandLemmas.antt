@@ -17,22 +17,23 @@ use Rattle.poly_text.specs.Words.{words_of}
 use Rattle.poly_text.specs.Names.{is_name, is_reserved, is_among}
 use Rattle.calc_session.specs.Answers.{before, refused}
 use Rattle.calc_session.specs.Faults.{fault_line}
-use Rattle.calc_session.specs.Lines.{is_skipped}
+use Rattle.calc_session.specs.Lines.{is_equals, is_skipped}
 use Rattle.calc_session.specs.Commands.{command_of, takes}
-use Rattle.calc_session.specs.Body.{Form, Skip, Define, Ask, form_of, definition, definition_at, ask, asked, only_word, is_equals}
+use Rattle.calc_session.specs.Results.{◌>>=◌}
+use Rattle.calc_session.specs.Body.{Form, Skip, Define, Ask, form_of, definition, definition_at, ask, asked, only_word}
 use Rattle.calc_session.specs.Product.{is_degree_over, is_norm_over, product, IsProduct, IsProductRefused}
 use Rattle.calc_session.specs.Quotient.{IsUndivided}
-use Rattle.calc_session.specs.Session.{Setting, Defined, define, ◌>>=◌, polynomials_of, answer_of, answer_to, line_answer, reading_at, setting_in, in_line, at_column, text_line, product_in, division_in, outcome_lines, division_lines, body_answers}
+use Rattle.calc_session.specs.Session.{Setting, Defined, define, polynomials_of, answer_of, answer_to, line_answer, reading_at, setting_in, in_line, at_column, text_line, product_in, division_in, outcome_lines, division_lines, body_answers}
 use Rattle.calc_session.specs.View.{Defines}
 use Rattle.calc_session.specs.declared.commands.Command.{Command}
 use Rattle.calc_session.specs.declared.commands.Command.TheVariants.{Show, Mul, Div, Rem}
 use Rattle.calc_session.specs.declared.fault.LineFault.{LineFault}
 use Rattle.calc_session.specs.declared.fault.LineFault.TheVariants.{DegreeBound, CoefficientBound, TermBound, ZeroDivisor, NotUnit, NoMemory, BadName, ReservedName, VariableName, ArgumentCount}
 
-pub bind_ok : {A B : Type 0} (r : Result A LineFault) (a : A) (f : A → Result B LineFault) → r ≡ Ok a → r >>= f ≡ f a
+pub bind_ok : {A B E : Type 0} (r : Result A E) (a : A) (f : A → Result B E) → r ≡ Ok a → r >>= f ≡ f a
 bind_ok r a f e = ap (λ x. x >>= f) e
 
-pub bind_err : {A B : Type 0} (r : Result A LineFault) (fault : LineFault) (f : A → Result B LineFault) → r ≡ Err fault → r >>= f ≡ Err fault
+pub bind_err : {A B E : Type 0} (r : Result A E) (fault : E) (f : A → Result B E) → r ≡ Err fault → r >>= f ≡ Err fault
 bind_err r fault f e = ap (λ x. x >>= f) e
 
 -- ---- the product

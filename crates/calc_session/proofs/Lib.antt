@@ -6,6 +6,6 @@ pub mod DefinitionLemmas
 pub mod CommandLemmas
 pub mod Operands
 pub mod Places
-pub mod SessionLemmas
 pub mod HeadLemmas
+pub mod SessionLemmas
 mod Examples

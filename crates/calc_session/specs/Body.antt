@@ -1,6 +1,6 @@
 -- The lines of the body.
-use Rattle.std.specs.Prelude.{◌==◌, ◌+◌, ℕ, Bool, not, List, [], ◌∷◌, length, if◌then◌else◌, Result, Ok, Err, Option, Some, None, take, position}
-use Rattle.calc_session.specs.Lines.{is_skipped}
+use Rattle.std.specs.Prelude.{◌+◌, ℕ, not, List, [], ◌∷◌, length, if◌then◌else◌, Result, Ok, Err, Option, Some, None, take, position}
+use Rattle.calc_session.specs.Lines.{is_equals, is_skipped}
 use Rattle.calc_session.specs.Commands.{command_of, takes}
 use Rattle.poly_text.specs.Words.{words_of}
 use Rattle.poly_text.specs.Names.{is_name, is_reserved, is_among}
@@ -13,9 +13,6 @@ pub data Form : Type 0 where
   Skip : Form
   Define : List ℕ → ℕ → Form
   Ask : Command → List (List ℕ) → Form
-
-abbrev pub is_equals : ℕ → Bool
-is_equals byte = byte == 61
 
 -- the word, where it is the only one; none is a name else
 abbrev pub only_word : List (List ℕ) → List ℕ

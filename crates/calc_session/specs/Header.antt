@@ -1,13 +1,18 @@
--- The header lines, by their words.
-use Rattle.std.specs.Prelude.{◌≤◌, ◌&&◌, ◌+◌, ◌*◌, ◌-◌, ℕ, not, List, [], ◌∷◌, nat_le, codes, fold, if◌then◌else◌, Result, Ok, Err}
+-- The header lines: those with the variables and the ring by their words.
+use Rattle.std.specs.Prelude.{◌≤◌, ◌&&◌, ◌+◌, ◌*◌, ◌-◌, ℕ, not, List, [], ◌∷◌, nat_le, codes, fold, position, is_some, if◌then◌else◌, Option, Some, None, Result, Ok, Err}
 use Rattle.std.specs.List.{list_all}
 use Rattle.std.specs.Str.{bytes_eq}
+use Rattle.sdmp_laws.specs.Order as monomials
+use Rattle.poly_text.specs.Words.{words_of}
 use Rattle.poly_text.specs.Names.{is_digit, names_of}
 use Rattle.poly_text.specs.declared.names.NamesFault.{NamesFault}
 use Rattle.poly_text.specs.declared.names.NamesFault.TheVariants as names
 use Rattle.poly_text.specs.declared.names.NamesFault.TheVariants.{Count, Reserved, Repeated}
+use Rattle.calc_session.specs.Lines.{is_equals}
 use Rattle.calc_session.specs.declared.fault.LineFault.{LineFault}
-use Rattle.calc_session.specs.declared.fault.LineFault.TheVariants.{VarsExpected, VariableCount, BadName, ReservedName, RepeatedName, RingExpected, BadModulus, NoMemory}
+use Rattle.calc_session.specs.declared.fault.LineFault.TheVariants.{VarsExpected, VariableCount, BadName, ReservedName, RepeatedName, RingExpected, BadModulus, BadOrder, NoMemory}
+use Rattle.calc_session.specs.declared.order.Order.{Order}
+use Rattle.calc_session.specs.declared.order.Order.TheVariants.{Grlex}
 use Rattle.calc_session.specs.declared.ring.RingChoice.{RingChoice}
 use Rattle.calc_session.specs.declared.ring.RingChoice.TheVariants.{Integers, Modulus}
 
@@ -54,3 +59,27 @@ characteristic_of (Modulus p) = p
 abbrev pub IsChoice : RingChoice → Type 0
 IsChoice Integers = Unit {0}
 IsChoice (Modulus p) = 2 ≤ p
+
+-- the order of a word
+unfoldable pub order_named : List ℕ → Option Order
+order_named word = if bytes_eq word (codes "grlex") then Some Grlex else None
+
+abbrev pub chosen : Option Order → Result (Option Order) LineFault
+chosen (Some order) = Ok (Some order)
+chosen None = Err BadOrder
+
+abbrev pub order_by : List (List ℕ) → Result (Option Order) LineFault
+order_by (word ∷ []) = chosen (order_named word)
+order_by _ = Err BadOrder
+
+abbrev pub order_said : List (List ℕ) → Result (Option Order) LineFault
+order_said [] = Ok None
+order_said (first ∷ words) = if bytes_eq first (codes "order") then order_by words else Ok None
+
+-- `order grlex`; a line that holds a '=' or begins otherwise chooses no order
+abbrev pub order_of : List ℕ → Result (Option Order) LineFault
+order_of line = if is_some (position is_equals line) then Ok None else order_said (words_of line)
+
+-- the order of the monomials
+abbrev pub monomial_order : Order → monomials.Order
+monomial_order Grlex = monomials.Grlex

@@ -6,8 +6,9 @@ pub mod Commands
 pub mod Body
 pub mod Product
 pub mod Quotient
-pub mod Session
+pub mod Results
 pub mod Heads
+pub mod Session
 pub mod Definitions
 pub mod View
 pub mod Says

@@ -2,6 +2,10 @@
 use Rattle.std.specs.Prelude.{◌==◌, ◌+◌, ℕ, Bool, true, false, List, [], ◌∷◌, if◌then◌else◌, map}
 use Rattle.poly_text.specs.Words.{words_of}
 
+-- '='
+abbrev pub is_equals : ℕ → Bool
+is_equals byte = byte == 61
+
 -- the byte stands before the first of these lines
 abbrev pub before_lines : ℕ → List (List ℕ) → List (List ℕ)
 before_lines byte [] = (byte ∷ []) ∷ []

@@ -1,7 +1,7 @@
 -- What a session answers.
 use Rattle.std.specs.Prelude.{◌+◌, ℕ, List, [], ◌∷◌, ◌++◌, length, drop, codes, if◌then◌else◌, Option, Some, None, Result, Ok, Err}
 use Rattle.std.specs.Str.{bytes_eq}
-use Rattle.sdmp_laws.specs.Order.{Order}
+use Rattle.sdmp_laws.specs.Order as monomials
 use Rattle.sdmp_laws.specs.Poly.{Term}
 use Rattle.sdmp_laws.specs.Division.{Division}
 use Rattle.sdmp_laws.specs.declared.Mode.{Mode}
@@ -11,9 +11,10 @@ use Rattle.text_laws.specs.Reading.{reading}
 use Rattle.text_laws.specs.Canonical.{text}
 use Rattle.text_laws.specs.declared.TextFault.{TextFault}
 use Rattle.text_laws.specs.declared.TextFault.TheVariants as text_fault
-use Rattle.poly_text.specs.Words.{words_of}
-use Rattle.calc_session.specs.Lines.{lines, effective}
-use Rattle.calc_session.specs.Header.{vars_of, ring_of, characteristic_of}
+use Rattle.wide_monomial.specs.Packing.{limit_of}
+use Rattle.calc_session.specs.Results.{◌>>=◌}
+use Rattle.calc_session.specs.Header.{characteristic_of, monomial_order}
+use Rattle.calc_session.specs.Heads.{Head, head_of}
 use Rattle.calc_session.specs.Body.{Form, Skip, Define, Ask, form_of}
 use Rattle.calc_session.specs.Product.{product}
 use Rattle.calc_session.specs.Faults.{fault_line}
@@ -21,26 +22,27 @@ use Rattle.calc_session.specs.Answers.{Answers, before, done, refused}
 use Rattle.calc_session.specs.declared.commands.Command.{Command}
 use Rattle.calc_session.specs.declared.commands.Command.TheVariants.{Show, Mul, Div, Rem}
 use Rattle.calc_session.specs.declared.fault.LineFault.{LineFault}
-use Rattle.calc_session.specs.declared.fault.LineFault.TheVariants.{VarsExpected, RingExpected, ArgumentCount, UnknownName, Syntax, UnknownNameAt, DegreeBoundAt, CoefficientBoundAt, CoefficientBound, TermBound, ZeroDivisor, NotUnit, NoMemory}
-
--- the monomials of sessions: their order, and the greatest degree of one in so many variables
-pub record Monomials : Type 0 where
-  pub order : Order
-  pub limit : ℕ → ℕ
+use Rattle.calc_session.specs.declared.fault.LineFault.TheVariants.{ArgumentCount, UnknownName, Syntax, UnknownNameAt, DegreeBoundAt, CoefficientBoundAt, CoefficientBound, TermBound, ZeroDivisor, NotUnit, NoMemory}
+use Rattle.calc_session.specs.declared.header.HeaderFault.{HeaderFault}
+use Rattle.calc_session.specs.declared.order.Order.{Order}
+use Rattle.calc_session.specs.declared.ring.RingChoice.{RingChoice}
 
 -- the order of the monomials, the variables, the greatest degree of a monomial, and the modulus, 0 for the integers
 pub record Setting : Type 0 where
-  pub order : Order
+  pub order : monomials.Order
   pub variables : List (List ℕ)
   pub limit : ℕ
   pub modulus : ℕ
 
-abbrev pub setting_in : Order → List (List ℕ) → ℕ → ℕ → Setting
+abbrev pub setting_in : monomials.Order → List (List ℕ) → ℕ → ℕ → Setting
 setting_in ord names lim p = record { order = ord; variables = names; limit = lim; modulus = p }
 
--- the setting of a session in such monomials
-abbrev pub setting_of : Monomials → List (List ℕ) → ℕ → Setting
-setting_of monomials variables modulus = setting_in monomials.order variables (monomials.limit (length variables)) modulus
+-- the setting that a header chooses: the number of the variables gives the limit
+abbrev pub setting_by : List (List ℕ) → RingChoice → Order → Setting
+setting_by variables ring ord = setting_in (monomial_order ord) variables (limit_of (length variables)) (characteristic_of ring)
+
+abbrev pub setting_of : Head → Setting
+setting_of head = setting_by head.variables head.ring head.order
 
 -- the terms of the latest polynomial of each name that has one
 abbrev pub Defined : Type 0
@@ -51,11 +53,6 @@ undefined name = None
 
 abbrev pub define : List ℕ → List Term → Defined → Defined
 define name f defined other = if bytes_eq name other then Some f else defined other
-
-infixl 10 ◌>>=◌
-abbrev pub ◌>>=◌ : {A B : Type 0} → Result A LineFault → (A → Result B LineFault) → Result B LineFault
-Ok a >>= f = f a
-Err e >>= f = Err e
 
 abbrev pub known : Option (List Term) → Result (List Term) LineFault
 known (Some f) = Ok f
@@ -143,24 +140,11 @@ body_answers setting defined number (line ∷ later) =
       | Err fault ↦ refused (fault_line number fault)
     ]
 
--- from the line with the ring on, which has this number
-unfoldable pub ring_answers : Monomials → List (List ℕ) → ℕ × List (List ℕ) → Answers
-ring_answers monomials variables (number, []) = refused (fault_line number RingExpected)
-ring_answers monomials variables (number, line ∷ later) =
-    elim (ring_of (words_of line)) [
-      | Ok ring ↦ body_answers (setting_of monomials variables (characteristic_of ring)) undefined (number + 1) later
-      | Err fault ↦ refused (fault_line number fault)
-    ]
+-- from the header on
+abbrev pub answers_from : Result Head HeaderFault → Answers
+answers_from (Ok head) = body_answers (setting_of head) undefined head.line head.body
+answers_from (Err fault) = refused (fault_line fault.line fault.fault)
 
--- from the line with the variables on, which has this number
-unfoldable pub vars_answers : Monomials → ℕ × List (List ℕ) → Answers
-vars_answers monomials (number, []) = refused (fault_line number VarsExpected)
-vars_answers monomials (number, line ∷ later) =
-    elim (vars_of (words_of line)) [
-      | Ok variables ↦ ring_answers monomials variables (effective (number + 1) later)
-      | Err fault ↦ refused (fault_line number fault)
-    ]
-
--- what a session in such monomials answers to these bytes
-unfoldable pub answers : Monomials → List ℕ → Answers
-answers monomials bytes = vars_answers monomials (effective 1 (lines bytes))
+-- what a session answers to these bytes
+unfoldable pub answers : List ℕ → Answers
+answers bytes = answers_from (head_of bytes)

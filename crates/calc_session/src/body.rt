@@ -1,12 +1,13 @@
 //! The lines of the body.
-ghost use Rattle.std.specs.Prelude.{◌≡◌, ◌<◌, IfSome, length, position};
+ghost use Rattle.std.specs.Prelude.{◌≡◌};
 ghost use Rattle.poly_text.specs.Words.{words_of};
-ghost use Rattle.calc_session.specs.Body.{form_of, asked, definition, only_word, is_equals};
+ghost use Rattle.calc_session.specs.Body.{form_of, asked, definition, only_word};
 ghost use Rattle.calc_session.specs.Says.{says};
 
 use crate::commands::Command;
 use crate::effective::is_skip;
 use crate::fault::LineFault;
+use crate::lines::find_equals;
 use poly_text::{Names, count_words, is_name, is_reserved, split_word, stands_in};
 
 /// What a line says: nothing; a definition, whose polynomial begins at the place `start`; or a command and the words behind it, which are its names.
@@ -28,13 +29,6 @@ pub fn parse_line<'a>(line: &'a [u8], names: &Names) -> Result<Line<'a>, LineFau
         Some(i) => parse_definition(&line[..i], i + 1, names),
         None => parse_command(line),
     }
-}
-
-fn find_equals(line: &[u8]) -> Option<usize>
-    ensures place { result ≡ position is_equals line.now }
-    ensures within { IfSome result (λ i. i < length line.now) }
-{
-    line.iter().position(|byte| *byte == b'=')
 }
 
 #[tactic(auto, unfolding(crate::specs::Body::definition))]

@@ -1,16 +1,17 @@
 //! The lines that count.
-ghost use Rattle.std.specs.Prelude.{◌≡◌, ◌+◌, ◌≤◌, ◌∷◌, [], ℕ, length, map, MatchOption};
+ghost use Rattle.std.specs.Prelude.{◌≡◌, ◌+◌, ◌<◌, ◌≤◌, ◌∷◌, [], ℕ, length, map, IfSome, MatchOption};
 ghost use Rattle.poly_text.specs.Words.{words_of};
 ghost use Rattle.calc_session.specs.Lines.{lines, is_skipped, effective};
 
 use crate::lines::split_line;
 use poly_text::split_word;
 
-/// A line that isn't skipped, or the end of the input: its number, and the bytes behind it.
+/// A line that isn't skipped, or the end of the input: its number, the bytes from it on, and the bytes behind it.
 #[derive(Clone, Copy)]
 pub(crate) struct Effective<'a> {
     pub number: u64,
     pub line: Option<&'a [u8]>,
+    pub from: &'a [u8],
     pub rest: &'a [u8],
 }
 
@@ -18,14 +19,10 @@ pub(crate) struct Effective<'a> {
 #[tactic(auto, using(crate::proofs::EffectiveLemmas::effective_none, crate::proofs::EffectiveLemmas::effective_later, crate::proofs::EffectiveLemmas::effective_here, crate::proofs::EffectiveLemmas::no_lines))]
 pub(crate) fn effective_line(bytes: &[u8], first: u64) -> Effective<'_>
     requires { first + length bytes.now ≤ u64.MAX }
-    ensures line { MatchOption
-        result.line
-        (effective first (lines bytes.now) ≡ (result.number, []))
-        (λ line. effective first (lines bytes.now) ≡ (result.number, line.now ∷ lines result.rest.now)) }
-    ensures bound { MatchOption
-        result.line
-        (result.number ≤ first + length bytes.now)
-        (λ _. result.number + 1 + length result.rest.now ≤ first + length bytes.now) }
+    ensures from { effective first (lines bytes.now) ≡ (result.number, lines result.from.now) }
+    ensures line { MatchOption result.line (lines result.from.now ≡ []) (λ line. lines result.from.now ≡ line.now ∷ lines result.rest.now) }
+    ensures bound { result.number + length result.from.now ≤ first + length bytes.now }
+    ensures later { IfSome result.line (λ _. length result.rest.now < length result.from.now) }
 {
     let mut number = first;
     let mut rest = bytes;
@@ -35,6 +32,7 @@ pub(crate) fn effective_line(bytes: &[u8], first: u64) -> Effective<'_>
             return Effective {
                 number,
                 line: Some(line),
+                from: rest,
                 rest: later,
             };
         }
@@ -44,6 +42,7 @@ pub(crate) fn effective_line(bytes: &[u8], first: u64) -> Effective<'_>
     Effective {
         number,
         line: None,
+        from: rest,
         rest,
     }
 }

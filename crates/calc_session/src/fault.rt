@@ -17,6 +17,8 @@ pub enum LineFault {
     RingExpected,
     /// The modulus isn't of digits alone, or not from 2 to 2^64 - 1.
     BadModulus,
+    /// The third line that isn't skipped begins with `order` and holds no `=`, and isn't `order` and the word of one order.
+    BadOrder,
     /// The name of a definition is a variable's.
     VariableName,
     /// The text isn't in the grammar.

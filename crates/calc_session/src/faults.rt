@@ -1,5 +1,5 @@
 //! The lines that tell a fault.
-ghost use Rattle.std.specs.Prelude.{◌≡◌, ◌++◌, IfOk, is_ok, if◌then◌else◌, codes, option_map, Option};
+ghost use Rattle.std.specs.Prelude.{◌≡◌, ◌≢◌, ◌++◌, IfOk, OnOk, is_ok, if◌then◌else◌, codes, option_map, Option};
 ghost use Rattle.std.specs.Fmt.{decimal};
 ghost use Rattle.calc_session.specs.Faults.{fault_line, fault_words, fault_column, column_text};
 
@@ -8,15 +8,19 @@ use itoa::Buffer;
 use sdmp_laws::NoMemory;
 use std::alloc::{AllocError, Global};
 
-/// Appends the fault line, all or nothing.
+/// Appends the fault line, all or nothing. Want of memory is no fault of a line, and is answered with itself.
 pub fn write_fault(
     alloc: Global,
     line: u64,
     fault: &LineFault,
     out: &mut Vec<u8>,
 ) -> Result<(), NoMemory>
-    ensures { out.new.items ≡ (if is_ok result then out.old.items ++ fault_line line fault.now else out.old.items) }
+    ensures appended { out.new.items ≡ (if is_ok result then out.old.items ++ fault_line line fault.now else out.old.items) }
+    ensures told { OnOk result (fault.now ≢ LineFault.NoMemory) }
 {
+    if let LineFault::NoMemory = fault {
+        return Err(NoMemory);
+    }
     let text = line_of(alloc, line, fault)?;
     out.extend_from_slice(&text)?;
     Ok(())
@@ -58,6 +62,7 @@ fn words_of(fault: &LineFault) -> &'static str
         LineFault::RepeatedName => "repeated name",
         LineFault::RingExpected => "ring expected",
         LineFault::BadModulus => "bad modulus",
+        LineFault::BadOrder => "bad order",
         LineFault::VariableName => "variable name",
         LineFault::Syntax { .. } => "syntax",
         LineFault::UnknownNameAt { .. } => "unknown name",

@@ -1,14 +1,14 @@
 //! The lines before the body.
-ghost use Rattle.std.specs.Prelude.{◌≡◌, ◌≢◌, ◌+◌, ◌≤◌, length, IfOk, IfErr, MatchResult, None, Some};
-ghost use Rattle.calc_session.specs.Lines.{lines};
-ghost use Rattle.calc_session.specs.Header.{IsChoice, characteristic_of};
-ghost use Rattle.calc_session.specs.Faults.{fault_line};
-ghost use Rattle.calc_session.specs.Answers.{refused};
-ghost use Rattle.calc_session.specs.Heads.{head_of};
-ghost use Rattle.calc_session.specs.Session.{Monomials, answers, body_answers, setting_of, undefined};
+ghost use Rattle.std.specs.Prelude.{◌≡◌, ◌≢◌, ◌+◌, ◌≤◌, length, Ok, Err, IfOk, MatchResult};
+ghost use Rattle.calc_session.specs.Lines.{lines, effective};
+ghost use Rattle.calc_session.specs.Header.{IsChoice};
+ghost use Rattle.calc_session.specs.Heads.{head_of, ring_head, order_head};
+ghost use Rattle.calc_session.specs.Says.{head_said, header_said};
 
 use crate::effective::effective_line;
 use crate::fault::LineFault;
+use crate::order::Order;
+use crate::order_line::parse_order;
 use crate::ring::RingChoice;
 use crate::ring_line::parse_ring;
 use crate::vars::parse_vars;
@@ -20,6 +20,7 @@ use std::alloc::Global;
 pub struct Header<'a> {
     pub names: Names,
     pub ring: RingChoice,
+    pub order: Order,
     pub line: u64,
     pub body: &'a [u8],
 }
@@ -31,19 +32,14 @@ pub struct HeaderFault {
     pub fault: LineFault,
 }
 
-/// Reads the variables and the ring of a session, of which `bytes` is the whole input.
-#[tactic(auto, using(crate::proofs::SessionLemmas::header_none, crate::proofs::SessionLemmas::header_vars, crate::proofs::SessionLemmas::header_half, crate::proofs::SessionLemmas::header_ring, crate::proofs::SessionLemmas::header_whole))]
+/// Reads the variables, the ring and the order of a session, of which `bytes` is the whole input.
 pub fn parse_header(alloc: Global, bytes: &[u8]) -> Result<Header<'_>, HeaderFault>
-    ensures header { IfOk
-        result
-        (λ h. (monomials : Monomials) → answers monomials bytes.now ≡ body_answers (setting_of monomials h.names (characteristic_of h.ring)) undefined h.line (lines h.body.now)) }
     ensures head { MatchResult
         result
-        (λ h. head_of bytes.now ≡ Some record { variables = h.names; modulus = characteristic_of h.ring; body = lines h.body.now })
-        (λ e. e.fault ≢ LineFault.NoMemory → head_of bytes.now ≡ None) }
-    ensures ring { IfOk result (λ h. IsChoice h.ring) }
-    ensures within { IfOk result (λ h. h.line + length h.body.now ≤ 1 + length bytes.now) }
-    ensures refused { IfErr result (λ e. e.fault ≢ LineFault.NoMemory → (monomials : Monomials) → answers monomials bytes.now ≡ refused (fault_line e.line e.fault)) }
+        (λ header. head_of bytes.now ≡ Ok (head_said header))
+        (λ e. e.fault ≢ LineFault.NoMemory → head_of bytes.now ≡ Err e) }
+    ensures ring { IfOk result (λ header. IsChoice header.ring) }
+    ensures within { IfOk result (λ header. header.line + length header.body.now ≤ 1 + length bytes.now) }
 {
     let first = effective_line(bytes, 1);
     let Some(line) = first.line else {
@@ -52,16 +48,24 @@ pub fn parse_header(alloc: Global, bytes: &[u8]) -> Result<Header<'_>, HeaderFau
             fault: LineFault::VarsExpected,
         });
     };
-    let names = match parse_vars(alloc, line) {
-        Ok(names) => names,
-        Err(fault) => {
-            return Err(HeaderFault {
-                line: first.number,
-                fault,
-            });
-        }
-    };
-    let second = effective_line(first.rest, first.number + 1);
+    match parse_vars(alloc, line) {
+        Ok(names) => after_vars(names, first.rest, first.number + 1),
+        Err(fault) => Err(HeaderFault {
+            line: first.number,
+            fault,
+        }),
+    }
+}
+
+// the lines behind that with the variables, of which the first has this number
+#[tactic(auto, using(crate::proofs::HeadLemmas::no_second, crate::proofs::HeadLemmas::second_fault, crate::proofs::HeadLemmas::second_ring, crate::proofs::HeaderLemmas::ring_choice))]
+fn after_vars(names: Names, bytes: &[u8], first: u64) -> Result<Header<'_>, HeaderFault>
+    requires { first + length bytes.now ≤ u64.MAX }
+    ensures head { header_said result ≡ ring_head names (effective first (lines bytes.now)) }
+    ensures ring { IfOk result (λ header. IsChoice header.ring) }
+    ensures within { IfOk result (λ header. header.line + length header.body.now ≤ first + length bytes.now) }
+{
+    let second = effective_line(bytes, first);
     let Some(line) = second.line else {
         return Err(HeaderFault {
             line: second.number,
@@ -69,14 +73,54 @@ pub fn parse_header(alloc: Global, bytes: &[u8]) -> Result<Header<'_>, HeaderFau
         });
     };
     match parse_ring(line) {
-        Ok(ring) => Ok(Header {
-            names,
-            ring,
-            line: second.number + 1,
-            body: second.rest,
-        }),
+        Ok(ring) => after_ring(names, ring, second.rest, second.number + 1),
         Err(fault) => Err(HeaderFault {
             line: second.number,
+            fault,
+        }),
+    }
+}
+
+// the lines behind that with the ring, of which the first has this number
+#[tactic(auto, using(crate::proofs::HeadLemmas::no_third, crate::proofs::HeadLemmas::third_order, crate::proofs::HeadLemmas::third_body, crate::proofs::HeadLemmas::third_fault))]
+fn after_ring(
+    names: Names,
+    ring: RingChoice,
+    bytes: &[u8],
+    first: u64,
+) -> Result<Header<'_>, HeaderFault>
+    requires { first + length bytes.now ≤ u64.MAX }
+    ensures head { header_said result ≡ order_head names ring (effective first (lines bytes.now)) }
+    ensures ring { IfOk result (λ header. header.ring ≡ ring) }
+    ensures within { IfOk result (λ header. header.line + length header.body.now ≤ first + length bytes.now) }
+{
+    let third = effective_line(bytes, first);
+    let Some(line) = third.line else {
+        return Ok(Header {
+            names,
+            ring,
+            order: Order::Grlex,
+            line: third.number,
+            body: third.from,
+        });
+    };
+    match parse_order(line) {
+        Ok(Some(order)) => Ok(Header {
+            names,
+            ring,
+            order,
+            line: third.number + 1,
+            body: third.rest,
+        }),
+        Ok(None) => Ok(Header {
+            names,
+            ring,
+            order: Order::Grlex,
+            line: third.number,
+            body: third.from,
+        }),
+        Err(fault) => Err(HeaderFault {
+            line: third.number,
             fault,
         }),
     }

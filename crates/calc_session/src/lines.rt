@@ -1,6 +1,6 @@
 //! The lines of an input.
-ghost use Rattle.std.specs.Prelude.{◌≡◌, ◌+◌, ◌<◌, ◌≤◌, ◌∷◌, length, take, drop};
-ghost use Rattle.calc_session.specs.Lines.{cut_lines, without_return, lines};
+ghost use Rattle.std.specs.Prelude.{◌≡◌, ◌+◌, ◌<◌, ◌≤◌, ◌∷◌, IfSome, length, take, drop, position};
+ghost use Rattle.calc_session.specs.Lines.{cut_lines, without_return, lines, is_equals};
 
 const LINE_FEED: u8 = b'\n';
 
@@ -44,4 +44,12 @@ pub fn split_line(bytes: &[u8]) -> (&[u8], &[u8])
     } else {
         (line, &bytes[end..])
     }
+}
+
+/// Where the first `=` stands.
+pub(crate) fn find_equals(line: &[u8]) -> Option<usize>
+    ensures place { result ≡ position is_equals line.now }
+    ensures within { IfSome result (λ i. i < length line.now) }
+{
+    line.iter().position(|byte| *byte == b'=')
 }

@@ -1,5 +1,5 @@
 //! The body of a session.
-ghost use Rattle.std.specs.Prelude.{◌≡◌, ◌≢◌, ◌+◌, ◌≤◌, ◌<◌, [], length, map, All, Ok, Err, IfOk, IfErr, MatchResult, OnOk};
+ghost use Rattle.std.specs.Prelude.{◌≡◌, ◌≢◌, ◌+◌, ◌≤◌, ◌<◌, [], length, map, All, Ok, Err, IfOk, IfErr, MatchResult, OnOk, OnErr};
 ghost use Rattle.poly_text.specs.Words.{words_of};
 ghost use Rattle.calc_session.specs.Session.{at_column, known, polynomials_of, reading_at, setting_in};
 ghost use Rattle.calc_session.specs.View.{held, plain, place_in, Defines, IsSettingOf};
@@ -104,6 +104,7 @@ impl<R: CoeffRing, M: Monomial> BodySession<R, M> {
         ensures setting { self.new.setting ≡ self.old.setting }
         ensures defines { OnOk result (Defines self.old.setting start line.now name.now (held self.old.defined) (held self.new.defined)) }
         ensures refused { IfErr result (λ fault. fault ≢ LineFault.NoMemory → reading_at self.old.setting start line.now ≡ Err fault) }
+        ensures same { OnErr result (self.new ≡ self.old) }
     {
         define_text(
             alloc,
@@ -136,6 +137,7 @@ fn define_text<R: CoeffRing, M: Monomial>(
     ensures refused { IfErr
         result
         (λ fault. fault ≢ LineFault.NoMemory → reading_at (setting_in M.order names.now M.LIM (R.characteristic ring)) start line.now ≡ Err fault) }
+    ensures same { OnErr result (defined.new ≡ defined.old) }
     ensures modulus { All (λ d. d.poly.modulus ≡ R.characteristic ring) defined.new }
 {
     match read_poly(alloc, ring, names, &line[start..]) {

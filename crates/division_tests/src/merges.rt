@@ -133,7 +133,8 @@ fn finds_a_term_once_there_is_room(rt: HostRuntime) -> Result<(), Fail> {
 
     // x is found, and the worker is to tell of it
     merge.reserve(4)?;
-    merge.advance(&rings, &row, &mut steps);
+    let receipt = merge.advance(&rings, &row, &mut steps);
+    assert!(rt; matches!(receipt.answer(), DivideAdvanceOf::Blocked(0)));
     assert!(rt; merge.progress() == 2 && !merge.is_over() && merge.front().is_some());
     assert!(rt; merge.quotient().len() == 1);
 

@@ -10,6 +10,8 @@ mod heaps;
 #[cfg(test)]
 mod lines;
 #[cfg(test)]
+mod normal_forms;
+#[cfg(test)]
 mod polys;
 #[cfg(test)]
 mod products;

@@ -6,12 +6,12 @@ ghost use Rattle.poly_text.specs.Words.{words_of};
 ghost use Rattle.poly_text.specs.Names.{IsNameList, names_of, word_fault, is_name as is_name_word, is_reserved as is_reserved_word, is_among, is_letter as is_letter_byte, is_digit};
 
 use crate::words::{count_words, split_word};
-use packed_monomial::LAYOUTS;
+use packed_monomial::MOST_VARIABLES;
 use std::alloc::{AllocError, Global};
 use std::marker::Model;
 
-/// The most names: as many as the widest packed monomial has variables.
-pub const MOST_NAMES: usize = LAYOUTS.len();
+/// The most names: as many as a monomial has variables.
+pub const MOST_NAMES: usize = MOST_VARIABLES;
 
 /// The most bytes of a name.
 pub const LONGEST_NAME: usize = 32;

@@ -1,16 +1,20 @@
 -- Lemmas on the answers that have been written, and those that are to come.
 use Rattle.std.proofs.Common.{◌≡◌, ◌≤◌, ℕ, List, [], ◌∷◌, ◌++◌, length, take, drop, Option, Result, Ok, Err, OnOk, OnErr, is_err, Bool, true, false, map, refl, sym, ap, subst, ◌∙◌, arith, append_assoc, append-nil, length-append}
-use Rattle.std.proofs.Math.Seq.{take-append_seam}
+use Rattle.std.proofs.Math.Seq.{take-append_seam, take-length}
 use Rattle.std.proofs.lemmas.List.{take-append-drop}
 use Rattle.calc_session.specs.Lines.{lines}
 use Rattle.calc_session.proofs.EffectiveLemmas.{no_lines}
 use Rattle.calc_session.specs.Answers.{Answers, joined, text, before, done, refused}
-use Rattle.sdmp_laws.specs.Order.{Order}
-use Rattle.calc_session.specs.Session.{Monomials, Setting, Defined, body_answers, setting_in, setting_of, undefined}
+use Rattle.sdmp_laws.specs.Order as monomials
+use Rattle.wide_monomial.specs.Packing.{limit_of}
+use Rattle.calc_session.specs.Header.{characteristic_of, monomial_order}
+use Rattle.calc_session.specs.Session.{Setting, Defined, body_answers, setting_by, setting_in, undefined}
 use Rattle.calc_session.specs.View.{Body, answers_of, held}
 use Rattle.sdmp_top.specs.declared.answering.Next.{Next}
 use Rattle.sdmp_top.specs.declared.answering.Next.TheVariants as next
 use Rattle.calc_session.specs.declared.ending.Ending.{Ending}
+use Rattle.calc_session.specs.declared.order.Order.{Order}
+use Rattle.calc_session.specs.declared.ring.RingChoice.{RingChoice}
 use Rattle.sdmp_top.specs.declared.answering_fault.AnsweringFault.{AnsweringFault}
 use Rattle.sdmp_top.specs.declared.answering_fault.AnsweringFault.TheVariants as stop
 use Rattle.sdmp_top.specs.Outside.{Appends, AppendsPart, Rose}
@@ -115,6 +119,15 @@ pub reached_done : (old now : Option (List ℕ)) (first later : Answers) → Rea
 reached_done old now first later r e =
     subst (Appends old now) (sym (reached_text old now first later r ∙ ap (λ (a : Answers). joined r.pieces ++ text a) e ∙ append-nil (joined r.pieces))) r.appends
 
+-- the whole text is that of all pieces; a flush that fails leaves it
+pub all_pieces : (old mid now : Option (List ℕ)) (answers : Answers) → Appends old mid (text answers) → now ≡ mid → AppendsPieces old now answers.pieces
+all_pieces old mid now answers a kept = record {
+  k = length answers.pieces;
+  within = omega arith;
+  appends = subst (λ (m : Option (List ℕ)). Appends old m (joined (take (length answers.pieces) answers.pieces))) (sym kept)
+      (subst (λ (ps : List (List ℕ)). Appends old mid (joined ps)) (sym (take-length answers.pieces)) a);
+}
+
 -- whole pieces are a beginning of the text
 pub pieces_part : (old now : Option (List ℕ)) (answers : Answers) → AppendsPieces old now answers.pieces → AppendsPart old now (text answers)
 pieces_part old now answers p = record {
@@ -164,11 +177,11 @@ without_memory told old now before after at_last p s = record {
 
 -- ---- the session that a header asks for
 
-pub asked_for : (monomials : Monomials) (session : Body) (ord : Order) (names : List (List ℕ)) (lim p q number : ℕ) (lines : List (List ℕ))
+pub asked_for : (ring : RingChoice) (chosen : Order) (session : Body) (ord : monomials.Order) (names : List (List ℕ)) (lim p number : ℕ) (lines : List (List ℕ))
     → session ≡ record { setting = setting_in ord names lim p; defined = [] }
-    → ord ≡ monomials.order → lim ≡ monomials.limit (length names) → p ≡ q
-    → answers_of session number lines ≡ body_answers (setting_of monomials names q) undefined number lines
-asked_for monomials session ord names lim p q number lines e o l m =
+    → ord ≡ monomial_order chosen → lim ≡ limit_of (length names) → p ≡ characteristic_of ring
+    → answers_of session number lines ≡ body_answers (setting_by names ring chosen) undefined number lines
+asked_for ring chosen session ord names lim p number lines e o l m =
     ap (λ (s : Body). answers_of s number lines) e
     ∙ (λ i. body_answers (setting_in (o i) names (l i) (m i)) undefined number lines)
 

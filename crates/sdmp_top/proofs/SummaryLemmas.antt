@@ -1,12 +1,11 @@
 -- The summary of a demo, field by field.
-use Rattle.std.proofs.Common.{◌≡◌, ◌==◌, ℕ, List, [], ◌∷◌, ◌++◌, codes, count_by, length, sum, Option, Some, refl, sym, ap, subst, ◌∙◌, append_assoc}
+use Rattle.std.proofs.Common.{◌≡◌, ◌==◌, ℕ, List, [], ◌∷◌, ◌++◌, codes, count_by, length, sum, Option, Some, refl, sym, ap, subst, ◌∙◌, arith, append-nil, append_assoc}
 use Rattle.std.specs.Fmt.{decimal}
 use Rattle.calc_session.specs.Answers.{text}
 use Rattle.calc_session.specs.Session.{answers}
-use Rattle.sdmp_top.specs.Monomials.{packed}
 use Rattle.calc_session.specs.Demo.{demo_input, summary}
 use Rattle.sdmp_top.specs.Outside.{Appends, AppendsPart}
-use Rattle.sdmp_top.specs.Written.{demo_text}
+use Rattle.sdmp_top.specs.Written.{AppendsPieces, demo_text}
 
 regrouped : (o a b c d e f g h i j k : List ℕ)
     → o ++ a ++ b ++ c ++ d ++ e ++ f ++ g ++ h ++ i ++ j ++ k ≡ o ++ (a ++ b ++ c ++ d ++ e ++ f ++ g ++ h ++ i ++ j ++ k)
@@ -38,11 +37,11 @@ summed seed input lines bytes total text o o₁ o₂ o₃ o₄ o₅ now l b t e�
     (codes " bytes\nsum ") (decimal total) (10 ∷ []) o₁ o₂ o₃ o₄ o₅ now e₁ e₂ e₃ e₄ e₅ e₆
     ∙ ap (λ s. o ++ s) ((λ i. numbers seed input (l i) (b i) (t i)) ∙ sym (summary_is seed input text))
 
-demo_is : (seed : ℕ) → summary seed (length (demo_input seed)) (text (answers packed (demo_input seed))) ≡ demo_text seed
+demo_is : (seed : ℕ) → summary seed (length (demo_input seed)) (text (answers (demo_input seed))) ≡ demo_text seed
 unfolding summary demo_text
 demo_is seed = refl
 
-pub demo_summed : (seed input : ℕ) (answered now : List ℕ) → input ≡ length (demo_input seed) → answered ≡ text (answers packed (demo_input seed))
+pub demo_summed : (seed input : ℕ) (answered now : List ℕ) → input ≡ length (demo_input seed) → answered ≡ text (answers (demo_input seed))
     → now ≡ summary seed input answered → now ≡ demo_text seed
 demo_summed seed input answered now n a e = e ∙ (λ i. summary seed (n i) (a i)) ∙ demo_is seed
 
@@ -60,4 +59,12 @@ whole_part old mid now bytes told a kept same = record {
   rest = [];
   whole = refl;
   appends = subst (λ (m : Option (List ℕ)). Appends old m told) (sym kept) (subst (λ (l : List ℕ). Appends old mid l) same a);
+}
+
+-- and so all of its one piece
+pub whole_piece : (old mid now : Option (List ℕ)) (bytes told : List ℕ) → Appends old mid bytes → now ≡ mid → bytes ≡ told → AppendsPieces old now (told ∷ [])
+whole_piece old mid now bytes told a kept same = record {
+  k = 1;
+  within = omega arith;
+  appends = subst (λ (m : Option (List ℕ)). Appends old m (told ++ [])) (sym kept) (subst (λ (l : List ℕ). Appends old mid l) (same ∙ sym (append-nil told)) a);
 }

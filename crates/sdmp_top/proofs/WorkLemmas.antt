@@ -1,7 +1,7 @@
 -- Lemmas on what a session makes, and on what has been counted of it.
 use Rattle.std.proofs.Common.{◌≡◌, ◌+◌, ◌<◌, ◌≤◌, ℕ, Bool, true, false, cond, leb, min, List, [], ◌∷◌, ◌++◌, length, Option, Some, None, Result, Ok, Err, OnOk, refl, sym, ap, subst, ◌∙◌, arith, append-nil, append_assoc}
 use Rattle.std.proofs.lemmas.List.Sums.{sum_by-append}
-use Rattle.sdmp_laws.specs.Order.{Order}
+use Rattle.sdmp_laws.specs.Order as monomials
 use Rattle.sdmp_laws.specs.Poly.{Term}
 use Rattle.sdmp_laws.specs.Division.{Division}
 use Rattle.sdmp_laws.specs.LongDivision.{quotient_list}
@@ -10,18 +10,22 @@ use Rattle.sdmp_laws.specs.declared.Mode.TheVariants.{Exact, Remainder}
 use Rattle.division_laws.specs.Outcome.{division}
 use Rattle.whole_laws.specs.Notes.{Product}
 use Rattle.global_heap.specs.Names.{notes_total}
+use Rattle.wide_monomial.specs.Packing.{limit_of}
 use Rattle.calc_session.specs.Lines.{lines}
+use Rattle.calc_session.specs.Header.{characteristic_of, monomial_order}
 use Rattle.calc_session.specs.Body.{Form, Ask, form_of}
 use Rattle.calc_session.specs.Heads.{Head, head_of}
-use Rattle.calc_session.specs.Session.{Monomials, Setting, Defined, setting_in, setting_of, undefined, polynomials_of, division_in, answer_to}
+use Rattle.calc_session.specs.Session.{Setting, Defined, setting_by, setting_in, setting_of, undefined, polynomials_of, division_in, answer_to}
 use Rattle.calc_session.specs.View.{Body, IsSettingOf, held}
 use Rattle.calc_session.specs.declared.commands.Command.{Command}
 use Rattle.calc_session.specs.declared.commands.Command.TheVariants.{Mul, Div, Rem}
 use Rattle.calc_session.specs.declared.fault.LineFault.{LineFault}
+use Rattle.calc_session.specs.declared.header.HeaderFault.{HeaderFault}
+use Rattle.calc_session.specs.declared.order.Order.{Order}
+use Rattle.calc_session.specs.declared.ring.RingChoice.{RingChoice}
 use Rattle.calc_session.proofs.EffectiveLemmas.{no_lines}
 use Rattle.calc_session.specs.Demo.{demo_input}
 use Rattle.sdmp_words.specs.declared.settings.Settings.{Settings}
-use Rattle.sdmp_top.specs.Monomials.{packed}
 use Rattle.sdmp_top.specs.Outside.{last_count}
 use Rattle.sdmp_top.specs.Work.{Calculation, MakesProduct, MakesDivision, by_fewer_rows, calculations_of, calculations_asked, calculations_said, line_calculations, body_calculations, calculations_by, head_calculations, calculations, Work, work_of, total, IsRaised, IsTallied, IsTalliedUpTo, IsTalliedRun, input_of}
 
@@ -133,21 +137,20 @@ pub no_more_made : (session : Body) (rest : List ℕ) → length rest ≡ 0 → 
 no_more_made session rest none = ap (calculations_by session) (no_lines rest none) ∙ body_end session.setting (held session.defined)
 
 -- ---- the header
-pub made_after_head : (monomials : Monomials) (bytes : List ℕ) (head : Head) → head_of bytes ≡ Some head
-    → calculations monomials bytes ≡ body_calculations (setting_of monomials head.variables head.modulus) undefined head.body
+pub made_after_head : (bytes : List ℕ) (head : Head) → head_of bytes ≡ Ok head → calculations bytes ≡ body_calculations (setting_of head) undefined head.body
 unfolding calculations
-made_after_head monomials bytes head e = ap (head_calculations monomials) e
+made_after_head bytes head e = ap head_calculations e
 
-pub none_made : (monomials : Monomials) (bytes : List ℕ) → head_of bytes ≡ None → calculations monomials bytes ≡ []
+pub none_made : (bytes : List ℕ) (fault : HeaderFault) → head_of bytes ≡ Err fault → calculations bytes ≡ []
 unfolding calculations
-none_made monomials bytes e = ap (head_calculations monomials) e
+none_made bytes fault e = ap head_calculations e
 
 -- what the session that a header asks for makes
-pub asked_of : (monomials : Monomials) (session : Body) (ord : Order) (names : List (List ℕ)) (lim p q : ℕ) (lines : List (List ℕ))
+pub asked_of : (ring : RingChoice) (chosen : Order) (session : Body) (ord : monomials.Order) (names : List (List ℕ)) (lim p : ℕ) (lines : List (List ℕ))
     → session ≡ record { setting = setting_in ord names lim p; defined = [] }
-    → ord ≡ monomials.order → lim ≡ monomials.limit (length names) → p ≡ q
-    → calculations_by session lines ≡ body_calculations (setting_of monomials names q) undefined lines
-asked_of monomials session ord names lim p q lines e o l m =
+    → ord ≡ monomial_order chosen → lim ≡ limit_of (length names) → p ≡ characteristic_of ring
+    → calculations_by session lines ≡ body_calculations (setting_by names ring chosen) undefined lines
+asked_of ring chosen session ord names lim p lines e o l m =
     ap (λ (s : Body). calculations_by s lines) e
     ∙ (λ i. body_calculations (setting_in (o i) names (l i) (m i)) undefined lines)
 
@@ -166,7 +169,7 @@ tallied_by (Ok x) W setting defined line command names fs before after said know
     (sym (line_makes setting defined line (Ask command names) said ∙ ap (calculations_asked setting command) known)) h
 tallied_by (Err fault) W setting defined line command names fs before after said known h = tt
 
-module _ (ord : Order) (lim n : ℕ) (setting : Setting) (is : IsSettingOf ord lim n setting) (p : ℕ) (f g : List Term) (modulus : p ≡ setting.modulus) where
+module _ (ord : monomials.Order) (lim n : ℕ) (setting : Setting) (is : IsSettingOf ord lim n setting) (p : ℕ) (f g : List Term) (modulus : p ≡ setting.modulus) where
   pub mul_makes : MakesProduct (by_fewer_rows ord p n f g) ∷ [] ≡ calculations_of setting Mul (f ∷ g ∷ [])
   mul_makes = λ i. MakesProduct (by_fewer_rows (sym is.order i) (modulus i) (sym is.variables i) f g) ∷ []
 
@@ -186,7 +189,7 @@ made_of (Ok x) W setting command fs both made before after h e is = subst (λ (l
 made_of (Err fault) W setting command fs both made before after h e is = tt
 
 -- ---- which factor gives the rows
-module _ (ord : Order) (p q n : ℕ) (f g : List Term) where
+module _ (ord : monomials.Order) (p q n : ℕ) (f g : List Term) where
   pub left_rows : length f ≤ length g → by_fewer_rows ord p n f g ≡ record { ord = ord; p = p; n = n; f = f; g = g }
   left_rows few = let e : leb (length f) (length g) ≡ true = search (arith, few) in ap (λ (b : Bool). cond b (let m : Product = record { ord = ord; p = p; n = n; f = f; g = g } in m) (let m : Product = record { ord = ord; p = p; n = n; f = g; g = f } in m)) e
 
@@ -201,9 +204,9 @@ some_is : (a b : List ℕ) → Some a ≡ Some b → a ≡ b
 some_is a b e = cc
 
 pub demo_tallied : (told settings : Settings) (seed : ℕ) (left : Option (List ℕ)) (before after : Work) → told ≡ settings → told.demo ≡ Some seed
-    → IsTallied told.workers (calculations packed (demo_input seed)) before after → IsTalliedRun settings left before after
+    → IsTallied told.workers (calculations (demo_input seed)) before after → IsTalliedRun settings left before after
 demo_tallied told settings seed left before after same demo h = λ input e.
     let asked : settings.demo ≡ Some seed = ap (λ (s : Settings). s.demo) (sym same) ∙ demo in
     let is : demo_input seed ≡ input = some_is (demo_input seed) input (ap (λ (d : Option ℕ). input_of d left) (sym asked) ∙ e) in
-    subst (λ (bytes : List ℕ). IsTallied settings.workers (calculations packed bytes) before after) is
-    (subst (λ (s : Settings). IsTallied s.workers (calculations packed (demo_input seed)) before after) same h)
+    subst (λ (bytes : List ℕ). IsTallied settings.workers (calculations bytes) before after) is
+    (subst (λ (s : Settings). IsTallied s.workers (calculations (demo_input seed)) before after) same h)

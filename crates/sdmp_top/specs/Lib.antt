@@ -1,4 +1,4 @@
-pub mod Monomials
+pub mod Memory
 pub mod Outside
 pub mod Work
 pub mod Written

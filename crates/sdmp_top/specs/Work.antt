@@ -8,15 +8,15 @@ use Rattle.sdmp_laws.specs.declared.Mode.TheVariants.{Exact, Remainder}
 use Rattle.whole_laws.specs.Notes.{Product}
 use Rattle.global_heap.specs.Names.{notes_total}
 use Rattle.calc_session.specs.Body.{Form, Ask, form_of}
-use Rattle.calc_session.specs.Session.{Monomials, Setting, Defined, setting_of, undefined, polynomials_of, division_in, answer_to}
+use Rattle.calc_session.specs.Session.{Setting, Defined, setting_of, undefined, polynomials_of, division_in, answer_to}
 use Rattle.calc_session.specs.View.{Body, held}
 use Rattle.calc_session.specs.Demo.{demo_input}
 use Rattle.calc_session.specs.Heads.{Head, head_of}
 use Rattle.calc_session.specs.declared.commands.Command.{Command}
 use Rattle.calc_session.specs.declared.commands.Command.TheVariants.{Mul, Div, Rem}
 use Rattle.calc_session.specs.declared.fault.LineFault.{LineFault}
+use Rattle.calc_session.specs.declared.header.HeaderFault.{HeaderFault}
 use Rattle.sdmp_words.specs.declared.settings.Settings.{Settings}
-use Rattle.sdmp_top.specs.Monomials.{packed}
 use Rattle.sdmp_top.specs.Outside.{last_count}
 use Rattle.sdmp_top.specs.declared.ends.Ends.{Ends}
 
@@ -64,13 +64,13 @@ body_calculations setting defined (line ∷ later) =
 abbrev pub calculations_by : Body → List (List ℕ) → List Calculation
 calculations_by body lines = body_calculations body.setting (held body.defined) lines
 
-abbrev pub head_calculations : Monomials → Option Head → List Calculation
-head_calculations monomials None = []
-head_calculations monomials (Some head) = body_calculations (setting_of monomials head.variables head.modulus) undefined head.body
+abbrev pub head_calculations : Result Head HeaderFault → List Calculation
+head_calculations (Ok head) = body_calculations (setting_of head) undefined head.body
+head_calculations (Err fault) = []
 
--- what the lines of a session make, in such monomials
-unfoldable pub calculations : Monomials → List ℕ → List Calculation
-calculations monomials bytes = head_calculations monomials (head_of bytes)
+-- what the lines of a session make
+unfoldable pub calculations : List ℕ → List Calculation
+calculations bytes = head_calculations (head_of bytes)
 
 -- the input of a run, where it is told: that of the demo of a seed, or else the bytes that the source has left
 abbrev pub input_of : Option ℕ → Option (List ℕ) → Option (List ℕ)
@@ -115,7 +115,7 @@ pub record IsTallied (W : ℕ) (made : List Calculation) (before after : Work) :
 
 -- what a run is to make with these settings, where the source had these bytes left, has been counted
 abbrev pub IsTalliedRun : Settings → Option (List ℕ) → Work → Work → Type 0
-IsTalliedRun settings left before after = (input : List ℕ) → input_of settings.demo left ≡ Some input → IsTallied settings.workers (calculations packed input) before after
+IsTalliedRun settings left before after = (input : List ℕ) → input_of settings.demo left ≡ Some input → IsTallied settings.workers (calculations input) before after
 
 -- of all that is to be made what stands before the rest has been counted
 pub record IsTalliedUpTo (W : ℕ) (all rest : List Calculation) (before after : Work) : Type 0 where

@@ -2,7 +2,6 @@
 use Rattle.std.specs.Prelude.{◌≡◌, ◌≢◌, Bool, true, [], ◌∷◌, ◌⊎◌, ◌≤◌, ℕ, List, length, take, Option, Some, None, Result, Err, IfOk, OnOk}
 use Rattle.calc_session.specs.Answers.{Answers, joined, text}
 use Rattle.calc_session.specs.Session.{answers}
-use Rattle.sdmp_top.specs.Monomials.{packed}
 use Rattle.calc_session.specs.Demo.{demo_input, summary}
 use Rattle.calc_session.specs.declared.ending.Ending.{Ending}
 use Rattle.calc_session.specs.declared.ending.Ending.TheVariants as ending
@@ -14,16 +13,16 @@ use Rattle.sdmp_top.specs.Outside.{Appends, AppendsPart, Rose}
 
 -- the summary of the answers to the demo's input
 unfoldable pub demo_text : ℕ → List ℕ
-demo_text seed = summary seed (length (demo_input seed)) (text (answers packed (demo_input seed)))
+demo_text seed = summary seed (length (demo_input seed)) (text (answers (demo_input seed)))
 
 -- the demo's run: the summary in place of the answers
 abbrev pub demo_answers : ℕ → Answers
-demo_answers seed = record { pieces = demo_text seed ∷ []; ending = (answers packed (demo_input seed)).ending }
+demo_answers seed = record { pieces = demo_text seed ∷ []; ending = (answers (demo_input seed)).ending }
 
 -- what is to be answered, where it is told: the demo of a seed, or else the bytes that the source has left
 abbrev pub wanted : Option ℕ → Option (List ℕ) → Option Answers
 wanted (Some seed) left = Some (demo_answers seed)
-wanted None (Some input) = Some (answers packed input)
+wanted None (Some input) = Some (answers input)
 wanted None None = None
 
 -- the first k of the pieces stand whole after what was held

@@ -1,5 +1,5 @@
 //! The lines of a session are answered one by one.
-ghost use Rattle.std.specs.Prelude.{◌≡◌, ◌+◌, ◌≤◌, ◌∷◌, [], ℕ, List, length, Ok, OnOk, OnErr};
+ghost use Rattle.std.specs.Prelude.{◌≡◌, ◌+◌, ◌≤◌, ◌∷◌, [], ℕ, false, List, length, Ok, IsErrOf, OnOk, OnErr};
 ghost use Rattle.calc_session.specs.Answers.{before, refused};
 ghost use Rattle.calc_session.specs.Lines.{lines};
 ghost use Rattle.calc_session.specs.View.{answers_of};
@@ -72,6 +72,7 @@ pub fn answer_lines<T: Threads + Sync, G: Gate, R: CoeffRing, M: Monomial, K: Si
 ) -> Result<Ending, AnsweringFault>
     requires { first + length body.now ≤ u64.MAX }
     ensures answering { IsAnswering (answers_of session.old first (lines body.now)) (K.held sink.old) (K.held sink.new) (K.faults sink.old) (K.faults sink.new) (K.at_last sink.new) result }
+    ensures no_flush { IsErrOf result AnsweringFault.WriteFault → K.flush_failed sink.new ≡ false }
     ensures tallied { OnOk result (IsTallied by.now.workers (calculations_by session.old (lines body.now)) (tally_of ends.old) (tally_of ends.new)) }
 {
     let mut number = first;

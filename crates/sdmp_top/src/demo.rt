@@ -1,8 +1,7 @@
 //! The demo: its answers are counted, and a summary is written in their place.
-ghost use Rattle.std.specs.Prelude.{◌≡◌, ◌==◌, ◌++◌, [], Some, count_by, length, sum, IfOk, OnOk};
+ghost use Rattle.std.specs.Prelude.{◌≡◌, ◌==◌, ◌++◌, [], false, Some, count_by, length, sum, IfOk, OnOk};
 ghost use Rattle.std.specs.Fmt.{decimal};
 ghost use Rattle.calc_session.specs.Session.{answers};
-ghost use Rattle.sdmp_top.specs.Monomials.{packed};
 ghost use Rattle.calc_session.specs.Demo.{summary, demo_input as demo_input_of};
 ghost use Rattle.sdmp_top.specs.Outside.{last_count};
 ghost use Rattle.sdmp_top.specs.Work.{IsTallied, calculations, tally_of};
@@ -34,8 +33,8 @@ pub fn demo_summary<T: Threads + Sync, G: Gate>(
     seed: u64,
 ) -> Result<Summary, NoMemory>
     ensures text { IfOk result (λ s. s.text.items ≡ demo_text seed) }
-    ensures ending { IfOk result (λ s. s.ending ≡ (answers packed (demo_input_of seed)).ending) }
-    ensures tallied { OnOk result (IsTallied by.now.workers (calculations packed (demo_input_of seed)) (tally_of ends.old) (tally_of ends.new)) }
+    ensures ending { IfOk result (λ s. s.ending ≡ (answers (demo_input_of seed)).ending) }
+    ensures tallied { OnOk result (IsTallied by.now.workers (calculations (demo_input_of seed)) (tally_of ends.old) (tally_of ends.new)) }
 {
     let Ok(input) = demo_input(alloc, seed) else {
         return Err(NoMemory);
@@ -127,6 +126,8 @@ impl Sink for Gathered {
     ghost at_last = { λ s. s.faults ≡ last_count };
 
     ghost flushed = { λ s. s.flushed };
+
+    ghost flush_failed = { λ s. false };
 
     fn write(&mut self, bytes: &[u8]) -> Result<usize, Failed> {
         self.flushed = false;

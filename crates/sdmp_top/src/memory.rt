@@ -1,7 +1,7 @@
 // A source and a sink over memory that fail where they are told to.
-ghost use Rattle.std.specs.Prelude.{◌≡◌, ◌==◌, ◌<◌, ◌≤◌, ◌+◌, ℕ, [], List, drop, take, length, IfOk, Some};
-ghost use Rattle.std.specs.List.{list_any};
-ghost use Rattle.sdmp_top.specs.Outside.{Rose, last_count};
+ghost use Rattle.std.specs.Prelude.{◌≡◌, ◌||◌, ◌<◌, ◌≤◌, ◌-◌, [], drop, take, min, length, if◌then◌else◌, false, true, is_err, IfOk, OnErr, OnOk, Some, vec_capacity};
+ghost use Rattle.sdmp_top.specs.Memory.{counted_on, finds_no_room, is_failing};
+ghost use Rattle.sdmp_top.specs.Outside.{Appends, EndsAt, Gives, HasCause, Rose, last_count};
 
 use crate::outside::{Failed, Sink, Source};
 use crate::steady::copy_first;
@@ -42,9 +42,8 @@ impl MemorySource {
 
     // whether this read fails
     fn fails(&mut self) -> bool
-        ensures listed { result ≡ list_any (λ call. call == self.old.calls) self.old.failing.items }
-        ensures counted { self.new ≡ record self.old { calls = self.new.calls } }
-        ensures next { self.old.calls < last_count → self.new.calls ≡ self.old.calls + 1 }
+        ensures failing { result ≡ is_failing self.old.failing.items self.old.calls }
+        ensures counted { self.new ≡ record self.old { calls = counted_on self.old.calls } }
     {
         let call = self.calls;
         self.calls = call.saturating_add(1);
@@ -59,7 +58,19 @@ impl Source for MemorySource {
 
     ghost at_last = { λ s. s.faults ≡ last_count };
 
-    fn read(&mut self, into: &mut [u8]) -> Result<usize, Failed> {
+    // Exactly the reads that are listed fail, and each that fails is one fault.
+    fn read(&mut self, into: &mut [u8]) -> Result<usize, Failed>
+        ensures failing { is_err result ≡ is_failing self.old.failing.items self.old.calls }
+        ensures amount { IfOk result (λ n. n ≡ min (min (length self.old.bytes.items - self.old.at) (length into.new)) self.old.chunk) }
+        ensures calls { self.new.calls ≡ counted_on self.old.calls }
+        ensures faults { self.new.faults ≡ (if is_err result then counted_on self.old.faults else self.old.faults) }
+        ensures same { (self.new.bytes ≡ self.old.bytes) × (self.new.chunk ≡ self.old.chunk) × (self.new.failing ≡ self.old.failing) }
+        ensures within { IfOk result (λ n. n ≤ length into.new) }
+        ensures gives { IfOk result (λ n. Gives (Some (drop self.old.at self.old.bytes.items)) (Some (drop self.new.at self.new.bytes.items)) into.new n) }
+        ensures end { IfOk result (λ n. EndsAt (Some (drop self.old.at self.old.bytes.items)) into.new n) }
+        ensures kept { OnErr result (drop self.new.at self.new.bytes.items ≡ drop self.old.at self.old.bytes.items) }
+        ensures cause { HasCause self.old.faults self.new.faults (self.new.faults ≡ last_count) result }
+    {
         if self.fails() {
             self.faults = self.faults.saturating_add(1);
             return Err(Failed);
@@ -80,7 +91,9 @@ pub struct MemorySink {
     calls: u64,
     faults: u64,
     flushed: bool,
+    flush_failed: bool,
     ghost within: { length bytes.items ≤ room },
+    ghost reserved: { room ≤ vec_capacity bytes },
     ghost moves: { 0 < chunk },
 }
 
@@ -109,6 +122,7 @@ impl MemorySink {
             calls: 0,
             faults: 0,
             flushed: false,
+            flush_failed: false,
         })
     }
 
@@ -121,9 +135,8 @@ impl MemorySink {
 
     // whether this write or flush fails
     fn fails(&mut self) -> bool
-        ensures listed { result ≡ list_any (λ call. call == self.old.calls) self.old.failing.items }
-        ensures counted { self.new ≡ record self.old { calls = self.new.calls } }
-        ensures next { self.old.calls < last_count → self.new.calls ≡ self.old.calls + 1 }
+        ensures failing { result ≡ is_failing self.old.failing.items self.old.calls }
+        ensures counted { self.new ≡ record self.old { calls = counted_on self.old.calls } }
     {
         let call = self.calls;
         self.calls = call.saturating_add(1);
@@ -131,9 +144,9 @@ impl MemorySink {
     }
 
     fn fail(&mut self) -> Failed
+        ensures counted { self.new ≡ record self.old { faults = counted_on self.old.faults } }
         ensures later { self.old.faults ≤ self.new.faults }
         ensures rose { Rose self.old.faults self.new.faults (self.new.faults ≡ last_count) }
-        ensures kept { self.new ≡ record self.old { faults = self.new.faults } }
     {
         self.faults = self.faults.saturating_add(1);
         Failed
@@ -149,25 +162,48 @@ impl Sink for MemorySink {
 
     ghost flushed = { λ s. s.flushed };
 
-    fn write(&mut self, bytes: &[u8]) -> Result<usize, Failed> {
+    ghost flush_failed = { λ s. s.flush_failed };
+
+    // Exactly the writes fail that are listed or find no room, and each that fails is one fault.
+    fn write(&mut self, bytes: &[u8]) -> Result<usize, Failed>
+        ensures failing { is_err result ≡ (is_failing self.old.failing.items self.old.calls || finds_no_room (self.old.room - length self.old.bytes.items) (length bytes.now)) }
+        ensures amount { IfOk result (λ n. n ≡ min (min (length bytes.now) self.old.chunk) (self.old.room - length self.old.bytes.items)) }
+        ensures calls { self.new.calls ≡ counted_on self.old.calls }
+        ensures faults { self.new.faults ≡ (if is_err result then counted_on self.old.faults else self.old.faults) }
+        ensures same { (self.new.room ≡ self.old.room) × (self.new.chunk ≡ self.old.chunk) × (self.new.failing ≡ self.old.failing) }
+        ensures within { IfOk result (λ n. n ≤ length bytes.now) }
+        ensures some { IfOk result (λ n. 0 < length bytes.now → 0 < n) }
+        ensures appends { IfOk result (λ n. Appends (Some self.old.bytes.items) (Some self.new.bytes.items) (take n bytes.now)) }
+        ensures kept { OnErr result (self.new.bytes.items ≡ self.old.bytes.items) }
+        ensures unflushed { (self.new.flushed ≡ false) × (self.new.flush_failed ≡ false) }
+        ensures cause { HasCause self.old.faults self.new.faults (self.new.faults ≡ last_count) result }
+    {
         self.flushed = false;
+        self.flush_failed = false;
         if self.fails() {
             return Err(self.fail());
         }
         let room = self.room - self.bytes.len();
-        let n = bytes.len().min(self.chunk).min(room);
-        if n == 0 && !bytes.is_empty() {
+        if room == 0 && !bytes.is_empty() {
             return Err(self.fail());
         }
-        // the room was reserved, so memory isn't wanting here
+        let n = bytes.len().min(self.chunk).min(room);
         if self.bytes.extend_from_slice(&bytes[..n]).is_err() {
-            return Err(self.fail());
+            // the room was reserved
+            unreachable!();
         }
         Ok(n)
     }
 
-    fn flush(&mut self) -> Result<(), Failed> {
-        if self.fails() {
+    // Exactly the flushes that are listed fail, and each that fails is one fault.
+    fn flush(&mut self) -> Result<(), Failed>
+        ensures failing { is_err result ≡ is_failing self.old.failing.items self.old.calls }
+        ensures flushed { OnOk result (self.new ≡ record self.old { calls = counted_on self.old.calls; flushed = true; flush_failed = false }) }
+        ensures failed { OnErr result (self.new ≡ record self.old { calls = counted_on self.old.calls; faults = counted_on self.old.faults; flush_failed = true }) }
+        ensures cause { HasCause self.old.faults self.new.faults (self.new.faults ≡ last_count) result }
+    {
+        self.flush_failed = self.fails();
+        if self.flush_failed {
             return Err(self.fail());
         }
         self.flushed = true;

@@ -1,5 +1,5 @@
 // The outside as the run sees it. What a source has left and what a sink holds may be told or not; how often they failed always is.
-ghost use Rattle.std.specs.Prelude.{◌≡◌, ◌<◌, ◌≤◌, ℕ, Bool, true, false, List, length, take, Option, IfOk, OnOk, OnErr};
+ghost use Rattle.std.specs.Prelude.{◌≡◌, ◌<◌, ◌≤◌, ℕ, Bool, true, false, List, length, take, Option, is_err, IfOk, OnOk, OnErr};
 ghost use Rattle.sdmp_top.specs.Outside.{Gives, EndsAt, Appends, HasCause};
 
 /// A read, a write or a flush went wrong.
@@ -40,6 +40,9 @@ pub trait Sink {
     /// Nothing was written since the last flush.
     ghost flushed: { Self → Bool };
 
+    /// The last call was a flush that failed.
+    ghost flush_failed: { Self → Bool };
+
     /// Takes the first bytes of a piece and answers how many, at least one where the piece isn't empty.
     fn write(&mut self, bytes: &[u8]) -> Result<usize, Failed>
         ensures within { IfOk result (λ n. n ≤ length bytes.now) }
@@ -47,12 +50,14 @@ pub trait Sink {
         ensures appends { IfOk result (λ n. Appends (held self.old) (held self.new) (take n bytes.now)) }
         ensures kept { OnErr result (held self.new ≡ held self.old) }
         ensures unflushed { flushed self.new ≡ false }
+        ensures no_flush { flush_failed self.new ≡ false }
         ensures cause { HasCause (faults self.old) (faults self.new) (at_last self.new) result };
 
     /// Hands on what was written.
     fn flush(&mut self) -> Result<(), Failed>
         ensures flushed { OnOk result (flushed self.new ≡ true) }
         ensures unflushed { OnErr result (flushed self.new ≡ flushed self.old) }
+        ensures failed { flush_failed self.new ≡ is_err result }
         ensures kept { held self.new ≡ held self.old }
         ensures cause { HasCause (faults self.old) (faults self.new) (at_last self.new) result };
 }

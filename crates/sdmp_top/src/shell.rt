@@ -2,7 +2,6 @@
 ghost use Rattle.std.specs.Prelude.{◌≡◌, ◌≢◌, ◌⊎◌, ◌<◌, ◌≤◌, ℕ, [], None, Some, true, List, length, map, string_bytes};
 ghost use Rattle.calc_session.specs.Answers.{Answers, text};
 ghost use Rattle.calc_session.specs.Session.{answers};
-ghost use Rattle.sdmp_top.specs.Monomials.{packed};
 ghost use Rattle.sdmp_words.specs.Words.{settings_of};
 ghost use Rattle.sdmp_words.specs.declared.settings.Settings.{Settings};
 ghost use Rattle.calc_session.specs.Demo.{demo_input};
@@ -43,21 +42,20 @@ pub fn run<T: Threads + Sync, S: Source, K: Sink, G: Gate>(
     ensures exact { (settings : Settings) → settings_of (map string_bytes words.now) ≡ Some settings
         → (told : Answers) → wanted settings.demo (S.left source.old) ≡ Some told
         → (settings.demo ≡ None → (input : List ℕ) → S.left source.old ≡ Some input → length input ≤ MAX_INPUT)
-        → DidNotFail (S.faults source.old) (S.faults source.new) (S.at_last source.new)
+        → (settings.demo ≡ None → DidNotFail (S.faults source.old) (S.faults source.new) (S.at_last source.new))
         → DidNotFail (K.faults sink.old) (K.faults sink.new) (K.at_last sink.new)
         → result ≢ Status.NoMemory
         → Answered told result (K.held sink.old) (K.held sink.new) (K.flushed sink.new) }
     // Done and Refused.
     ensures answered { IsAnsweredStatus result → (settings : Settings) → settings_of (map string_bytes words.now) ≡ Some settings
-        → (told : Answers) → wanted settings.demo (S.left source.old) ≡ Some told
-        → Answered told result (K.held sink.old) (K.held sink.new) (K.flushed sink.new) }
+        → (told : Answers) → wanted settings.demo (S.left source.old) ≡ Some told → Answered told result (K.held sink.old) (K.held sink.new) (K.flushed sink.new) }
     ensures flushed { IsAnsweredStatus result → K.flushed sink.new ≡ true }
     ensures ended { IsAnsweredStatus result → (settings : Settings) → settings_of (map string_bytes words.now) ≡ Some settings → settings.demo ≡ None → (input : List ℕ) → S.left source.old ≡ Some input → S.left source.new ≡ Some [] }
     ensures tallied { IsAnsweredStatus result → (settings : Settings) → settings_of (map string_bytes words.now) ≡ Some settings → IsTalliedRun settings (S.left source.old) (tally_of ends.old) (tally_of ends.new) }
     // The words.
     ensures bad_words { result ≡ Status.BadWords → settings_of (map string_bytes words.now) ≡ None }
     ensures words { settings_of (map string_bytes words.now) ≡ None → (result ≡ Status.BadWords) ⊎ (result ≡ Status.NoMemory) }
-    ensures untouched { result ≡ Status.BadWords → (source.new ≡ source.old) × (sink.new ≡ sink.old) }
+    ensures untouched { settings_of (map string_bytes words.now) ≡ None → (source.new ≡ source.old) × (sink.new ≡ sink.old) }
     // The input.
     ensures read_fault { result ≡ Status.ReadFault → Rose (S.faults source.old) (S.faults source.new) (S.at_last source.new) }
     ensures source_steady { result ≢ Status.ReadFault → S.faults source.new ≡ S.faults source.old }
@@ -68,15 +66,16 @@ pub fn run<T: Threads + Sync, S: Source, K: Sink, G: Gate>(
         → (result ≡ Status.TooLong) ⊎ (result ≡ Status.NoMemory) }
     ensures nothing_written { (result ≡ Status.ReadFault) ⊎ (result ≡ Status.TooLong) → sink.new ≡ sink.old }
     ensures demo_unread { (settings : Settings) → settings_of (map string_bytes words.now) ≡ Some settings → settings.demo ≢ None → source.new ≡ source.old }
+    ensures demo_answered { (settings : Settings) → settings_of (map string_bytes words.now) ≡ Some settings → settings.demo ≢ None → (result ≢ Status.ReadFault) × (result ≢ Status.TooLong) }
     // What has been written where the run came to no end.
     ensures write_fault { result ≡ Status.WriteFault → Rose (K.faults sink.old) (K.faults sink.new) (K.at_last sink.new) }
     ensures sink_steady { result ≢ Status.WriteFault → K.faults sink.new ≡ K.faults sink.old }
     ensures part { result ≡ Status.WriteFault → (settings : Settings) → settings_of (map string_bytes words.now) ≡ Some settings
-        → (told : Answers) → wanted settings.demo (S.left source.old) ≡ Some told
-        → AppendsPart (K.held sink.old) (K.held sink.new) (text told) }
+        → (told : Answers) → wanted settings.demo (S.left source.old) ≡ Some told → AppendsPart (K.held sink.old) (K.held sink.new) (text told) }
+    ensures flush_failed { result ≡ Status.WriteFault → K.flush_failed sink.new ≡ true → (settings : Settings) → settings_of (map string_bytes words.now) ≡ Some settings
+        → (told : Answers) → wanted settings.demo (S.left source.old) ≡ Some told → AppendsPieces (K.held sink.old) (K.held sink.new) told.pieces }
     ensures no_memory { result ≡ Status.NoMemory → (settings : Settings) → settings_of (map string_bytes words.now) ≡ Some settings
-        → (told : Answers) → wanted settings.demo (S.left source.old) ≡ Some told
-        → AppendsPieces (K.held sink.old) (K.held sink.new) told.pieces }
+        → (told : Answers) → wanted settings.demo (S.left source.old) ≡ Some told → AppendsPieces (K.held sink.old) (K.held sink.new) told.pieces }
     ensures no_memory_flushed { result ≡ Status.NoMemory → (K.flushed sink.new ≡ true) ⊎ (sink.new ≡ sink.old) }
 {
     match read_words(alloc, words) {
@@ -101,10 +100,10 @@ fn run_session<T: Threads + Sync, G: Gate, S: Source, K: Sink>(
     sink: &mut K,
 ) -> Status
     ensures answered { IsAnsweredStatus result → (input : List ℕ) → S.left source.old ≡ Some input
-        → Answered (answers packed input) result (K.held sink.old) (K.held sink.new) (K.flushed sink.new) }
+        → Answered (answers input) result (K.held sink.old) (K.held sink.new) (K.flushed sink.new) }
     ensures flushed { IsAnsweredStatus result → K.flushed sink.new ≡ true }
     ensures tallied { IsAnsweredStatus result → (input : List ℕ) → S.left source.old ≡ Some input
-        → IsTallied by.now.workers (calculations packed input) (tally_of ends.old) (tally_of ends.new) }
+        → IsTallied by.now.workers (calculations input) (tally_of ends.old) (tally_of ends.new) }
     ensures ended { IsAnsweredStatus result → (input : List ℕ) → S.left source.old ≡ Some input → S.left source.new ≡ Some [] }
     ensures words { result ≢ Status.BadWords }
     ensures read_fault { result ≡ Status.ReadFault → Rose (S.faults source.old) (S.faults source.new) (S.at_last source.new) }
@@ -114,7 +113,7 @@ fn run_session<T: Threads + Sync, G: Gate, S: Source, K: Sink>(
         → DidNotFail (S.faults source.old) (S.faults source.new) (S.at_last source.new)
         → DidNotFail (K.faults sink.old) (K.faults sink.new) (K.at_last sink.new)
         → result ≢ Status.NoMemory
-        → Answered (answers packed input) result (K.held sink.old) (K.held sink.new) (K.flushed sink.new) }
+        → Answered (answers input) result (K.held sink.old) (K.held sink.new) (K.flushed sink.new) }
     ensures longer { (input : List ℕ) → S.left source.old ≡ Some input → MAX_INPUT < length input
         → DidNotFail (S.faults source.old) (S.faults source.new) (S.at_last source.new)
         → (result ≡ Status.TooLong) ⊎ (result ≡ Status.NoMemory) }
@@ -122,9 +121,11 @@ fn run_session<T: Threads + Sync, G: Gate, S: Source, K: Sink>(
     ensures write_fault { result ≡ Status.WriteFault → Rose (K.faults sink.old) (K.faults sink.new) (K.at_last sink.new) }
     ensures sink_steady { result ≢ Status.WriteFault → K.faults sink.new ≡ K.faults sink.old }
     ensures part { result ≡ Status.WriteFault → (input : List ℕ) → S.left source.old ≡ Some input
-        → AppendsPart (K.held sink.old) (K.held sink.new) (text (answers packed input)) }
+        → AppendsPart (K.held sink.old) (K.held sink.new) (text (answers input)) }
+    ensures flush_failed { result ≡ Status.WriteFault → K.flush_failed sink.new ≡ true → (input : List ℕ) → S.left source.old ≡ Some input
+        → AppendsPieces (K.held sink.old) (K.held sink.new) (answers input).pieces }
     ensures no_memory { result ≡ Status.NoMemory → (input : List ℕ) → S.left source.old ≡ Some input
-        → AppendsPieces (K.held sink.old) (K.held sink.new) (answers packed input).pieces }
+        → AppendsPieces (K.held sink.old) (K.held sink.new) (answers input).pieces }
     ensures no_memory_flushed { result ≡ Status.NoMemory → (K.flushed sink.new ≡ true) ⊎ (sink.new ≡ sink.old) }
 {
     let input = match read_all(alloc, source) {
@@ -151,11 +152,12 @@ fn run_demo<T: Threads + Sync, G: Gate, K: Sink>(
 ) -> Status
     ensures answered { IsAnsweredStatus result → Answered (demo_answers seed) result (K.held sink.old) (K.held sink.new) (K.flushed sink.new) }
     ensures flushed { IsAnsweredStatus result → K.flushed sink.new ≡ true }
-    ensures tallied { IsAnsweredStatus result → IsTallied by.now.workers (calculations packed (demo_input seed)) (tally_of ends.old) (tally_of ends.new) }
+    ensures tallied { IsAnsweredStatus result → IsTallied by.now.workers (calculations (demo_input seed)) (tally_of ends.old) (tally_of ends.new) }
     ensures told { IsAnsweredStatus result ⊎ (result ≡ Status.WriteFault) ⊎ (result ≡ Status.NoMemory) }
     ensures write_fault { result ≡ Status.WriteFault → Rose (K.faults sink.old) (K.faults sink.new) (K.at_last sink.new) }
     ensures sink_steady { result ≢ Status.WriteFault → K.faults sink.new ≡ K.faults sink.old }
     ensures part { result ≡ Status.WriteFault → AppendsPart (K.held sink.old) (K.held sink.new) (text (demo_answers seed)) }
+    ensures flush_failed { result ≡ Status.WriteFault → K.flush_failed sink.new ≡ true → AppendsPieces (K.held sink.old) (K.held sink.new) (demo_answers seed).pieces }
     ensures no_memory { result ≡ Status.NoMemory → sink.new ≡ sink.old }
 {
     let Ok(summary) = demo_summary(alloc, by, ends, seed) else {

@@ -1,5 +1,6 @@
 // A source and a sink that never fail.
-ghost use Rattle.std.specs.Prelude.{◌≡◌, ◌+◌, ◌<◌, ◌≤◌, [], drop, take, length, min, false, None, Some};
+ghost use Rattle.std.specs.Prelude.{◌≡◌, ◌+◌, ◌<◌, ◌≤◌, [], drop, take, length, min, false, true, is_err, None, Some, Ok};
+ghost use Rattle.sdmp_top.specs.Outside.{HasCause, last_count};
 
 use crate::outside::{Failed, Sink, Source};
 
@@ -69,7 +70,7 @@ impl CountSink {
     }
 
     fn add(&mut self, bytes: usize)
-        ensures { self.new ≡ record { count = min (self.old.count + bytes) 18446744073709551615; flushed = false } }
+        ensures { self.new ≡ record { count = min (self.old.count + bytes) last_count; flushed = false } }
     {
         self.count = self.count.saturating_add(bytes as u64);
         self.flushed = false;
@@ -85,12 +86,26 @@ impl Sink for CountSink {
 
     ghost flushed = { λ s. s.flushed };
 
-    fn write(&mut self, bytes: &[u8]) -> Result<usize, Failed> {
+    ghost flush_failed = { λ s. false };
+
+    // All bytes are taken and counted.
+    fn write(&mut self, bytes: &[u8]) -> Result<usize, Failed>
+        ensures whole { result ≡ Ok (length bytes.now) }
+        ensures count { self.new.count ≡ min (self.old.count + length bytes.now) last_count }
+        ensures unflushed { self.new.flushed ≡ false }
+        ensures cause { HasCause 0 0 ⊥ result }
+    {
         self.add(bytes.len());
         Ok(bytes.len())
     }
 
-    fn flush(&mut self) -> Result<(), Failed> {
+    // The count stays.
+    fn flush(&mut self) -> Result<(), Failed>
+        ensures count { self.new.count ≡ self.old.count }
+        ensures flushed { self.new.flushed ≡ true }
+        ensures failed { false ≡ is_err result }
+        ensures cause { HasCause 0 0 ⊥ result }
+    {
         self.flushed = true;
         Ok(())
     }

@@ -1,10 +1,10 @@
 ghost use Rattle.std.specs.Prelude.{◌<◌};
 
 use crate::{CountSink, Ends, MemorySink, MemorySource, Status, SteadySource, run};
+use gates::TestGate;
 use std::alloc::Global;
 use std::test::Fail;
 use std::thread::Threads;
-use turnstile::OpenGate;
 
 mod broken;
 mod divisions;
@@ -60,7 +60,7 @@ fn answer<T: Threads + Sync>(
         &list,
         &mut source,
         &mut sink,
-        &OpenGate,
+        &TestGate::Open,
         &mut Ends::new(),
     );
     Ok((sink.bytes().to_vec(alloc)?, status))
@@ -80,6 +80,18 @@ fn answers_sessions(rt: HostRuntime) -> Result<(), Fail> {
         (
             "vars x y z t u v w\nring Z\na = x^64\nb = x^63\nmul a b\n",
             "x^127\n",
+        ),
+        (
+            "vars x y z t u v w\nring Z\na = x^64\nb = x^64\nmul a b\n",
+            "x^128\n",
+        ),
+        (
+            "vars x x1 x2 x3 x4 x5 x6 x7 x8 x9 x10 x11 x12 x13 x14\nring Z\na = x^64\nb = x^63\nmul a b\n",
+            "x^127\n",
+        ),
+        (
+            "vars x y z\nring Z\norder grlex\na = x*z+y^2\nshow a\n",
+            "x*z+y^2\n",
         ),
         (
             "vars x\nring Z\na = 170141183460469231731687303715884105727\nb = -1\nmul a b\n",
@@ -130,8 +142,16 @@ fn refuses_lines(rt: HostRuntime) -> Result<(), Fail> {
 fn refuses_after_lines(rt: HostRuntime) -> Result<(), Fail> {
     let rows = [
         (
-            "vars x y z t u v w\nring Z\na = x^64\nb = x^64\nmul a b\n",
+            "vars x y z t u v w\nring Z\na = x^32767\nb = x\nmul a b\n",
             "line 5: degree bound\n",
+        ),
+        (
+            "vars x x1 x2 x3 x4 x5 x6 x7 x8 x9 x10 x11 x12 x13 x14\nring Z\na = x^64\nb = x^64\nmul a b\n",
+            "line 5: degree bound\n",
+        ),
+        (
+            "vars x\nring Z\na = x\norder grlex\n",
+            "line 4: unknown command\n",
         ),
         (
             "vars x\nring Z\na = 170141183460469231731687303715884105727\nb = 2\nmul a b\n",
@@ -178,6 +198,8 @@ fn names_the_first_fault(rt: HostRuntime) -> Result<(), Fail> {
             "vars x\nring Z\na = 0*x^2147483648\n",
             "line 3: degree bound at 5\n",
         ),
+        ("vars x\nring Z\norder lex\n", "line 3: bad order\n"),
+        ("vars x\nring Z\norder = 1\n", "line 3: reserved name\n"),
         ("vars x\nring Z\nx = 1\n", "line 3: variable name\n"),
         ("vars x\nring Z\nmul = 1\n", "line 3: reserved name\n"),
         ("vars x\nring Z\n= 1\n", "line 3: bad name\n"),
@@ -185,7 +207,10 @@ fn names_the_first_fault(rt: HostRuntime) -> Result<(), Fail> {
         ("vars x\nring Z\nvars y\n", "line 3: unknown command\n"),
         ("vars x\nring Z\nshow x\n", "line 3: unknown name\n"),
         ("vars = 1\n", "line 1: bad name\n"),
-        ("vars a b c d e f g 1\n", "line 1: variable count\n"),
+        (
+            "vars a b c d e f g h i j k l m n o 1\n",
+            "line 1: variable count\n",
+        ),
         ("vars x\nring = Z\n", "line 2: ring expected\n"),
         ("vars x\nring mod 5 5\n", "line 2: ring expected\n"),
         ("vars x\nring mod -5\n", "line 2: bad modulus\n"),
@@ -211,7 +236,7 @@ fn refuses_a_long_input(rt: HostRuntime) -> Result<(), Fail> {
             &[],
             &mut source,
             &mut sink,
-            &OpenGate,
+            &TestGate::Open,
             &mut ends
         ),
         Status::TooLong
@@ -225,7 +250,7 @@ fn refuses_a_long_input(rt: HostRuntime) -> Result<(), Fail> {
             &[],
             &mut source,
             &mut sink,
-            &OpenGate,
+            &TestGate::Open,
             &mut ends
         ),
         Status::Done

@@ -1,17 +1,20 @@
 -- The answers that the rules give are the computed ones.
-use Rattle.std.proofs.Common.{◌≡◌, ◌+◌, ℕ, List, [], ◌∷◌, length, Result, Ok, Err, refl, sym, ap, ◌∙◌, subst, inl, inr}
+use Rattle.std.proofs.Common.{◌≡◌, ◌+◌, ℕ, List, [], ◌∷◌, Option, Some, None, Result, Ok, Err, refl, sym, ap, ◌∙◌, subst, inl, inr}
 use Rattle.poly_text.specs.Words.{words_of}
 use Rattle.calc_session.specs.Lines.{lines, effective}
-use Rattle.calc_session.specs.Header.{vars_of, ring_of, characteristic_of}
+use Rattle.calc_session.specs.Header.{vars_of, ring_of, order_of}
+use Rattle.calc_session.specs.Heads.{head_in, order_head, ring_head, vars_head, head_of}
 use Rattle.calc_session.specs.Faults.{fault_line}
 use Rattle.calc_session.specs.Answers.{Answers, before, done, refused}
-use Rattle.calc_session.specs.Session.{Monomials, Setting, setting_of, Defined, undefined, body_answers, ring_answers, vars_answers, answers}
+use Rattle.calc_session.specs.Session.{Setting, setting_by, Defined, undefined, body_answers, answers_from, answers}
+use Rattle.calc_session.specs.declared.order.Order.{Order}
+use Rattle.calc_session.specs.declared.order.Order.TheVariants.{Grlex}
 use Rattle.calc_session.specs.declared.ring.RingChoice.{RingChoice}
 use Rattle.calc_session.specs.declared.fault.LineFault.{LineFault}
 use Rattle.calc_session.specs.declared.fault.LineFault.TheVariants.{VarsExpected, RingExpected}
 use Rattle.calc_session.proofs.CommandLemmas.{body_more, body_refused}
-use Rattle.calc_session.proofs.SessionLemmas.{after_vars, after_ring, vars_none, vars_line, ring_none, ring_line}
-use Rattle.session_laws.specs.Answered.{IsRight, IsBody, IsFromRing, IsFromVars, IsAnswered}
+use Rattle.calc_session.proofs.HeadLemmas.{by_order, by_ring, by_vars}
+use Rattle.session_laws.specs.Answered.{IsRight, IsBody, IsFromBody, IsFromOrder, IsFromRing, IsFromVars, IsAnswered}
 use Rattle.session_laws.specs.Laws.{AnswersAreAnswered}
 use Rattle.session_laws.proofs.Lines.{AllPolys, none_polys, right_is, wrong_is, right_polys, RightOrWrong, line_some}
 
@@ -38,54 +41,88 @@ body_some setting old number (line ∷ later) all = by (λ now o. body_some sett
     by rest (inr (fault, wrong)) = (refused (fault_line number fault), inr (fault, wrong, refl))
 
 -- ---- the header
-module _ (monomials : Monomials) where
-  ring_is : (variables : List (List ℕ)) (from : ℕ × List (List ℕ)) (A : Answers) → IsFromRing monomials variables from A → ring_answers monomials variables from ≡ A
-  ring_is variables (number, []) A h = ring_none monomials variables number ∙ sym h
-  ring_is variables (number, line ∷ later) A (inl (ring, e, body)) =
-      ring_line monomials variables number line later ∙ ap (after_ring monomials variables number later) e
-      ∙ body_is (setting_of monomials variables (characteristic_of ring)) undefined (number + 1) later A (none_polys (setting_of monomials variables (characteristic_of ring))) body
-  ring_is variables (number, line ∷ later) A (inr (fault, e, is)) =
-      ring_line monomials variables number line later ∙ ap (after_ring monomials variables number later) e ∙ sym is
+from_is : (variables : List (List ℕ)) (ring : RingChoice) (order : Order) (number : ℕ) (lines : List (List ℕ)) (A : Answers)
+    → IsFromBody variables ring order number lines A → answers_from (Ok (head_in variables ring order number lines)) ≡ A
+from_is variables ring order number lines A h =
+    let setting : Setting = setting_by variables ring order in
+    body_is setting undefined number lines A (none_polys setting) h
 
-  ring_some : (variables : List (List ℕ)) (from : ℕ × List (List ℕ)) → (A : Answers) × IsFromRing monomials variables from A
-  ring_some variables (number, []) = (refused (fault_line number RingExpected), refl)
-  ring_some variables (number, line ∷ later) = by (ring_of (words_of line)) refl
-    where
-      more : (ring : RingChoice) → ring_of (words_of line) ≡ Ok ring → (A : Answers) × IsBody (setting_of monomials variables (characteristic_of ring)) undefined (number + 1) later A
-          → (A : Answers) × IsFromRing monomials variables (number, line ∷ later) A
-      more ring e (A, body) = (A, inl (ring, e, body))
+from_some : (variables : List (List ℕ)) (ring : RingChoice) (order : Order) (number : ℕ) (lines : List (List ℕ))
+    → (A : Answers) × IsFromBody variables ring order number lines A
+from_some variables ring order number lines =
+    let setting : Setting = setting_by variables ring order in
+    body_some setting undefined number lines (none_polys setting)
 
-      by : (r : Result RingChoice LineFault) → ring_of (words_of line) ≡ r → (A : Answers) × IsFromRing monomials variables (number, line ∷ later) A
-      by (Ok ring) e =
-          let setting : Setting = setting_of monomials variables (characteristic_of ring) in
-          more ring e (body_some setting undefined (number + 1) later (none_polys setting))
-      by (Err fault) e = (refused (fault_line number fault), inr (fault, e, refl))
+order_is : (variables : List (List ℕ)) (ring : RingChoice) (from : ℕ × List (List ℕ)) (A : Answers)
+    → IsFromOrder variables ring from A → answers_from (order_head variables ring from) ≡ A
+order_is variables ring (number, []) A h = from_is variables ring Grlex number [] A h
+order_is variables ring (number, line ∷ later) A (inl (order, e, body)) =
+    ap (λ said. answers_from (by_order variables ring number line later said)) e ∙ from_is variables ring order (number + 1) later A body
+order_is variables ring (number, line ∷ later) A (inr (inl (e, body))) =
+    ap (λ said. answers_from (by_order variables ring number line later said)) e ∙ from_is variables ring Grlex number (line ∷ later) A body
+order_is variables ring (number, line ∷ later) A (inr (inr (fault, e, is))) =
+    ap (λ said. answers_from (by_order variables ring number line later said)) e ∙ sym is
 
-  vars_is : (from : ℕ × List (List ℕ)) (A : Answers) → IsFromVars monomials from A → vars_answers monomials from ≡ A
-  vars_is (number, []) A h = vars_none monomials number ∙ sym h
-  vars_is (number, line ∷ later) A (inl (variables, e, ring)) =
-      vars_line monomials number line later ∙ ap (after_vars monomials number later) e ∙ ring_is variables (effective (number + 1) later) A ring
-  vars_is (number, line ∷ later) A (inr (fault, e, is)) = vars_line monomials number line later ∙ ap (after_vars monomials number later) e ∙ sym is
+order_some : (variables : List (List ℕ)) (ring : RingChoice) (from : ℕ × List (List ℕ)) → (A : Answers) × IsFromOrder variables ring from A
+order_some variables ring (number, []) = from_some variables ring Grlex number []
+order_some variables ring (number, line ∷ later) = by (order_of line) refl
+  where
+    chosen : (order : Order) → order_of line ≡ Ok (Some order) → (A : Answers) × IsFromBody variables ring order (number + 1) later A
+        → (A : Answers) × IsFromOrder variables ring (number, line ∷ later) A
+    chosen order e (A, body) = (A, inl (order, e, body))
 
-  vars_some : (from : ℕ × List (List ℕ)) → (A : Answers) × IsFromVars monomials from A
-  vars_some (number, []) = (refused (fault_line number VarsExpected), refl)
-  vars_some (number, line ∷ later) = by (vars_of (words_of line)) refl
-    where
-      more : (variables : List (List ℕ)) → vars_of (words_of line) ≡ Ok variables → (A : Answers) × IsFromRing monomials variables (effective (number + 1) later) A
-          → (A : Answers) × IsFromVars monomials (number, line ∷ later) A
-      more variables e (A, ring) = (A, inl (variables, e, ring))
+    unchosen : order_of line ≡ Ok None → (A : Answers) × IsFromBody variables ring Grlex number (line ∷ later) A
+        → (A : Answers) × IsFromOrder variables ring (number, line ∷ later) A
+    unchosen e (A, body) = (A, inr (inl (e, body)))
 
-      by : (r : Result (List (List ℕ)) LineFault) → vars_of (words_of line) ≡ r → (A : Answers) × IsFromVars monomials (number, line ∷ later) A
-      by (Ok variables) e = more variables e (ring_some variables (effective (number + 1) later))
-      by (Err fault) e = (refused (fault_line number fault), inr (fault, e, refl))
+    by : (said : Result (Option Order) LineFault) → order_of line ≡ said → (A : Answers) × IsFromOrder variables ring (number, line ∷ later) A
+    by (Ok (Some order)) e = chosen order e (from_some variables ring order (number + 1) later)
+    by (Ok None) e = unchosen e (from_some variables ring Grlex number (line ∷ later))
+    by (Err fault) e = (refused (fault_line number fault), inr (inr (fault, e, refl)))
+
+ring_is : (variables : List (List ℕ)) (from : ℕ × List (List ℕ)) (A : Answers) → IsFromRing variables from A → answers_from (ring_head variables from) ≡ A
+ring_is variables (number, []) A h = sym h
+ring_is variables (number, line ∷ later) A (inl (ring, e, order)) =
+    ap (λ said. answers_from (by_ring variables number later said)) e ∙ order_is variables ring (effective (number + 1) later) A order
+ring_is variables (number, line ∷ later) A (inr (fault, e, is)) = ap (λ said. answers_from (by_ring variables number later said)) e ∙ sym is
+
+ring_some : (variables : List (List ℕ)) (from : ℕ × List (List ℕ)) → (A : Answers) × IsFromRing variables from A
+ring_some variables (number, []) = (refused (fault_line number RingExpected), refl)
+ring_some variables (number, line ∷ later) = by (ring_of (words_of line)) refl
+  where
+    more : (ring : RingChoice) → ring_of (words_of line) ≡ Ok ring → (A : Answers) × IsFromOrder variables ring (effective (number + 1) later) A
+        → (A : Answers) × IsFromRing variables (number, line ∷ later) A
+    more ring e (A, order) = (A, inl (ring, e, order))
+
+    by : (said : Result RingChoice LineFault) → ring_of (words_of line) ≡ said → (A : Answers) × IsFromRing variables (number, line ∷ later) A
+    by (Ok ring) e = more ring e (order_some variables ring (effective (number + 1) later))
+    by (Err fault) e = (refused (fault_line number fault), inr (fault, e, refl))
+
+vars_is : (from : ℕ × List (List ℕ)) (A : Answers) → IsFromVars from A → answers_from (vars_head from) ≡ A
+vars_is (number, []) A h = sym h
+vars_is (number, line ∷ later) A (inl (variables, e, ring)) =
+    ap (λ said. answers_from (by_vars number later said)) e ∙ ring_is variables (effective (number + 1) later) A ring
+vars_is (number, line ∷ later) A (inr (fault, e, is)) = ap (λ said. answers_from (by_vars number later said)) e ∙ sym is
+
+vars_some : (from : ℕ × List (List ℕ)) → (A : Answers) × IsFromVars from A
+vars_some (number, []) = (refused (fault_line number VarsExpected), refl)
+vars_some (number, line ∷ later) = by (vars_of (words_of line)) refl
+  where
+    more : (variables : List (List ℕ)) → vars_of (words_of line) ≡ Ok variables → (A : Answers) × IsFromRing variables (effective (number + 1) later) A
+        → (A : Answers) × IsFromVars (number, line ∷ later) A
+    more variables e (A, ring) = (A, inl (variables, e, ring))
+
+    by : (said : Result (List (List ℕ)) LineFault) → vars_of (words_of line) ≡ said → (A : Answers) × IsFromVars (number, line ∷ later) A
+    by (Ok variables) e = more variables e (ring_some variables (effective (number + 1) later))
+    by (Err fault) e = (refused (fault_line number fault), inr (fault, e, refl))
 
 -- ---- the law
-answered_is : (monomials : Monomials) (bytes : List ℕ) (A : Answers) → IsAnswered monomials bytes A → answers monomials bytes ≡ A
-unfolding answers
-answered_is monomials bytes A h = vars_is monomials (effective 1 (lines bytes)) A h
+answered_is : (bytes : List ℕ) (A : Answers) → IsAnswered bytes A → answers bytes ≡ A
+unfolding answers head_of
+answered_is bytes A h = vars_is (effective 1 (lines bytes)) A h
 
 pub answers_are_answered : AnswersAreAnswered
-answers_are_answered monomials bytes A = (answered_is monomials bytes A, λ e. by e (vars_some monomials (effective 1 (lines bytes))))
+answers_are_answered bytes A = (answered_is bytes A, λ e. by e (vars_some (effective 1 (lines bytes))))
   where
-    by : answers monomials bytes ≡ A → (B : Answers) × IsAnswered monomials bytes B → IsAnswered monomials bytes A
-    by e (B, h) = subst (IsAnswered monomials bytes) (sym (answered_is monomials bytes B h) ∙ e) h
+    by : answers bytes ≡ A → (B : Answers) × IsAnswered bytes B → IsAnswered bytes A
+    by e (B, h) = subst (IsAnswered bytes) (sym (answered_is bytes B h) ∙ e) h

@@ -1,8 +1,7 @@
 -- Sessions and their answers by the rules.
 use Rattle.std.proofs.Common.{◌≡◌, ℕ, List, [], ◌∷◌, codes, get_or, None, pos, inl, refl, sym, ◌∙◌, ap, arith}
 use Rattle.std.specs.Fmt.{digits}
-use Rattle.packed_monomial.specs.Packing.{limit_of}
-use Rattle.sdmp_laws.specs.Order.{Grlex, degree, ◌⋅◌, alike, over, divides, is_below, tie_below, lex_below}
+use Rattle.sdmp_laws.specs.Order.{degree, ◌⋅◌, alike, over, divides, is_below, tie_below, lex_below}
 use Rattle.sdmp_laws.specs.Poly.{Term, Over, AllBelow, Decreasing, Proper, norm, term_times, row, times, is_zero, keep, term_plus, put, terms, minus, negated, term_neg, lm, lc}
 use Rattle.sdmp_laws.specs.LongDivision.{quotient_list, turns_bound, turns_at, turn_at, turn_on, listed, factor, first_in_scope}
 use Rattle.sdmp_laws.specs.DivisionLaws.{rest_list}
@@ -15,53 +14,67 @@ use Rattle.poly_text.specs.Names.{word_fault, fault_behind}
 use Rattle.calc_session.specs.Answers.{Answers, text, done, refused}
 use Rattle.calc_session.specs.Lines.{cut_lines, without_return, effective}
 use Rattle.calc_session.specs.Faults.{fault_words, fault_column}
-use Rattle.calc_session.specs.Header.{modulus_of}
+use Rattle.calc_session.specs.Header.{modulus_of, order_named}
+use Rattle.calc_session.specs.Heads.{head_of}
 use Rattle.calc_session.specs.Commands.{command_of}
 use Rattle.calc_session.specs.Body.{Define, Ask, definition}
 use Rattle.calc_session.specs.Product.{product}
-use Rattle.calc_session.specs.Session.{Monomials, Setting, setting_of, Defined, undefined, define, answers as answers_in, vars_answers, ring_answers, body_answers, answer_to, reading_at, text_line, product_in, division_lines}
+use Rattle.calc_session.specs.Session.{Setting, setting_by, Defined, undefined, define, answers, body_answers, answer_to, reading_at, text_line, product_in, division_lines}
 use Rattle.calc_session.specs.declared.commands.Command.TheVariants.{Show}
 use Rattle.calc_session.specs.declared.ending.Ending.TheVariants.{Done}
+use Rattle.calc_session.specs.declared.order.Order.TheVariants.{Grlex}
 use Rattle.calc_session.specs.declared.ring.RingChoice.TheVariants.{Integers}
 use Rattle.session_laws.specs.Answered.{IsCanonicalList, IsRead, IsAnswered}
 use Rattle.session_laws.proofs.Answering.{answers_are_answered}
-
-abbrev packed : Monomials
-packed = record { order = Grlex; limit = limit_of }
-
-abbrev answers : List ℕ → Answers
-answers bytes = answers_in packed bytes
-
-abbrev IsAnsweredPacked : List ℕ → Answers → Type 0
-IsAnsweredPacked bytes A = IsAnswered packed bytes A
 
 -- the answers of a session without a fault
 abbrev all : List (List ℕ) → Answers
 all pieces = record { pieces = pieces; ending = Done }
 
-by_law : (bytes : List ℕ) (A : Answers) → answers bytes ≡ A → IsAnsweredPacked bytes A
-by_law bytes A e = (answers_are_answered packed bytes A).1 e
+by_law : (bytes : List ℕ) (A : Answers) → answers bytes ≡ A → IsAnswered bytes A
+by_law bytes A e = (answers_are_answered bytes A).1 e
 
 -- (x + 1)*(x - 1) = x^2 - 1
 abbrev difference : List ℕ
 difference = codes "vars x\nring Z\na = x+1\nb = x-1\nmul a b\n"
 
 difference_is : answers difference ≡ all (codes "x^2-1\n" ∷ [])
-unfolding answers_in digits cut_lines without_return words_of word_fault fault_behind effective vars_answers ring_answers definition command_of answer_to body_answers reading_at denotes class_of text_line product_in product times row term_times ◌⋅◌ norm terms put keep is_zero term_plus alike is_below tie_below lex_below degree
+unfolding answers head_of digits cut_lines without_return words_of word_fault fault_behind effective definition command_of answer_to body_answers reading_at denotes class_of text_line product_in product times row term_times ◌⋅◌ norm terms put keep is_zero term_plus alike is_below tie_below lex_below degree
 difference_is = refl
 
-difference_answered : IsAnsweredPacked difference (all (codes "x^2-1\n" ∷ []))
+difference_answered : IsAnswered difference (all (codes "x^2-1\n" ∷ []))
 difference_answered = by_law difference (all (codes "x^2-1\n" ∷ [])) difference_is
+
+-- x*z + y^2 in the order that the header chooses, and in that of a session whose header chooses none
+abbrev ordered : List ℕ
+ordered = codes "vars x y z\nring Z\norder grlex\na = y^2+x*z\nshow a\n"
+
+ordered_is : answers ordered ≡ all (codes "x*z+y^2\n" ∷ [])
+unfolding answers head_of digits cut_lines without_return words_of word_fault fault_behind effective order_named definition command_of answer_to body_answers reading_at denotes class_of text_line terms put keep is_zero term_plus alike is_below tie_below lex_below degree
+ordered_is = refl
+
+ordered_answered : IsAnswered ordered (all (codes "x*z+y^2\n" ∷ []))
+ordered_answered = by_law ordered (all (codes "x*z+y^2\n" ∷ [])) ordered_is
+
+abbrev unordered : List ℕ
+unordered = codes "vars x y z\nring Z\na = y^2+x*z\nshow a\n"
+
+unordered_is : answers unordered ≡ all (codes "x*z+y^2\n" ∷ [])
+unfolding answers head_of digits cut_lines without_return words_of word_fault fault_behind effective definition command_of answer_to body_answers reading_at denotes class_of text_line terms put keep is_zero term_plus alike is_below tie_below lex_below degree
+unordered_is = refl
+
+unordered_answered : IsAnswered unordered (all (codes "x*z+y^2\n" ∷ []))
+unordered_answered = by_law unordered (all (codes "x*z+y^2\n" ∷ [])) unordered_is
 
 -- (x + 1)^2 = x^2 + 1 modulo 2
 abbrev square : List ℕ
 square = codes "vars x\nring mod 2\na = x+1\nmul a a\nshow a\n"
 
 square_is : answers square ≡ all (codes "x^2+1\n" ∷ codes "x+1\n" ∷ [])
-unfolding answers_in digits cut_lines without_return words_of word_fault fault_behind effective vars_answers ring_answers modulus_of definition command_of answer_to body_answers reading_at denotes class_of text_line product_in product times row term_times ◌⋅◌ norm terms put keep is_zero term_plus alike is_below tie_below lex_below degree
+unfolding answers head_of digits cut_lines without_return words_of word_fault fault_behind effective modulus_of definition command_of answer_to body_answers reading_at denotes class_of text_line product_in product times row term_times ◌⋅◌ norm terms put keep is_zero term_plus alike is_below tie_below lex_below degree
 square_is = refl
 
-square_answered : IsAnsweredPacked square (all (codes "x^2+1\n" ∷ codes "x+1\n" ∷ []))
+square_answered : IsAnswered square (all (codes "x^2+1\n" ∷ codes "x+1\n" ∷ []))
 square_answered = by_law square (all (codes "x^2+1\n" ∷ codes "x+1\n" ∷ [])) square_is
 
 -- x^2 - 1 divided by x - 1, by x with a remainder, and by x
@@ -69,10 +82,10 @@ abbrev divisions : List ℕ
 divisions = codes "vars x\nring Z\na = x^2-1\nb = x-1\nc = x\ndiv a b\nrem a c\ndiv a c\n"
 
 divisions_are : answers divisions ≡ all (codes "x+1\n" ∷ codes "x\n-1\n" ∷ codes "none\n" ∷ [])
-unfolding answers_in digits cut_lines without_return words_of word_fault fault_behind effective vars_answers ring_answers definition command_of answer_to body_answers reading_at denotes class_of text_line division_lines outcome is_empty is_unit asks_unit looked_at passes_early is_long ending quotient_list turns_bound turns_at turn_at turn_on listed factor first_in_scope rest_list minus negated term_neg lm lc over divides times row term_times ◌⋅◌ norm terms put keep is_zero term_plus alike is_below tie_below lex_below degree
+unfolding answers head_of digits cut_lines without_return words_of word_fault fault_behind effective definition command_of answer_to body_answers reading_at denotes class_of text_line division_lines outcome is_empty is_unit asks_unit looked_at passes_early is_long ending quotient_list turns_bound turns_at turn_at turn_on listed factor first_in_scope rest_list minus negated term_neg lm lc over divides times row term_times ◌⋅◌ norm terms put keep is_zero term_plus alike is_below tie_below lex_below degree
 divisions_are = refl
 
-divisions_answered : IsAnsweredPacked divisions (all (codes "x+1\n" ∷ codes "x\n-1\n" ∷ codes "none\n" ∷ []))
+divisions_answered : IsAnswered divisions (all (codes "x+1\n" ∷ codes "x\n-1\n" ∷ codes "none\n" ∷ []))
 divisions_answered = by_law divisions (all (codes "x+1\n" ∷ codes "x\n-1\n" ∷ codes "none\n" ∷ [])) divisions_are
 
 -- no number stands behind a star: the fault of the third line ends the session
@@ -80,25 +93,25 @@ abbrev faulty : List ℕ
 faulty = codes "vars x\nring Z\na = x*2\nshow a\n"
 
 faulty_is : answers faulty ≡ refused (codes "line 3: syntax at 7\n")
-unfolding answers_in digits fault_words fault_column cut_lines without_return words_of word_fault fault_behind effective vars_answers ring_answers definition command_of answer_to body_answers reading_at denotes class_of
+unfolding answers head_of digits fault_words fault_column cut_lines without_return words_of word_fault fault_behind effective definition command_of answer_to body_answers reading_at denotes class_of
 faulty_is = refl
 
-faulty_answered : IsAnsweredPacked faulty (refused (codes "line 3: syntax at 7\n"))
+faulty_answered : IsAnswered faulty (refused (codes "line 3: syntax at 7\n"))
 faulty_answered = by_law faulty (refused (codes "line 3: syntax at 7\n")) faulty_is
 
 -- the rules give nothing else
 fourth_byte : Answers → ℕ
 fourth_byte A = get_or (text A) 3 0
 
-other_sign : IsAnsweredPacked difference (all (codes "x^2+1\n" ∷ [])) → ⊥
+other_sign : IsAnswered difference (all (codes "x^2+1\n" ∷ [])) → ⊥
 unfolding fourth_byte
 other_sign h =
-    let e : ◌≡◌ {A = ℕ} 45 43 = ap fourth_byte (sym difference_is ∙ (answers_are_answered packed difference (all (codes "x^2+1\n" ∷ []))).0 h) in
+    let e : ◌≡◌ {A = ℕ} 45 43 = ap fourth_byte (sym difference_is ∙ (answers_are_answered difference (all (codes "x^2+1\n" ∷ []))).0 h) in
     absurd (omega (arith, e))
 
 -- ---- a session by the rules alone
 shown : List ℕ
-shown = codes "vars x\nring Z\na = x\nshow a\n"
+shown = codes "vars x\nring Z\norder grlex\na = x\nshow a\n"
 
 -- the text behind the =, by the grammar
 abbrev variable : Tree
@@ -123,7 +136,7 @@ abbrev x : List Term
 x = record { monomial = 1 ∷ []; coefficient = pos 1 } ∷ []
 
 abbrev setting : Setting
-setting = setting_of packed (codes "x" ∷ []) 0
+setting = setting_by (codes "x" ∷ []) Integers Grlex
 
 one_term : IsCanonicalList setting x x
 unfolding Over Decreasing AllBelow Proper
@@ -138,9 +151,9 @@ variable_read = record { written = x; denoted = (variable, record { formed = var
 abbrev now : Defined
 now = define (codes "a") x undefined
 
--- `a = x` defines a, and `show a` writes x
-shown_answered : IsAnsweredPacked shown (all (codes "x\n" ∷ []))
-unfolding shown cut_lines without_return words_of word_fault fault_behind effective definition command_of text_line digits degree
+-- `order grlex` chooses the order, `a = x` defines a, and `show a` writes x
+shown_answered : IsAnswered shown (all (codes "x\n" ∷ []))
+unfolding shown cut_lines without_return words_of word_fault fault_behind effective order_named definition command_of text_line digits degree
 shown_answered =
     inl (
       codes "x" ∷ [],
@@ -149,12 +162,16 @@ shown_answered =
         Integers,
         refl,
         inl (
-          now,
-          [],
-          all (codes "x\n" ∷ []),
-          (Define (codes "a") 3, refl, (record { f = x; read = variable_read; held = refl }, refl)),
-          inl (now, codes "x\n", done, (Ask Show (codes "a" ∷ []), refl, (refl, record { given = x ∷ []; known = refl; written = refl })), refl, refl),
+          Grlex,
           refl,
+          inl (
+            now,
+            [],
+            all (codes "x\n" ∷ []),
+            (Define (codes "a") 3, refl, (record { f = x; read = variable_read; held = refl }, refl)),
+            inl (now, codes "x\n", done, (Ask Show (codes "a" ∷ []), refl, (refl, record { given = x ∷ []; known = refl; written = refl })), refl, refl),
+            refl,
+          ),
         ),
       ),
     )

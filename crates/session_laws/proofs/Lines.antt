@@ -7,8 +7,9 @@ use Rattle.sdmp_laws.specs.declared.Mode.TheVariants.{Exact, Remainder}
 use Rattle.division_laws.specs.Outcome as outcome
 use Rattle.division_laws.specs.Outcome.{Outcome, OverZero, ByNoUnit, OverBound, OverTerms, IsOutcome}
 use Rattle.division_laws.proofs.OutcomeLemmas.{one_outcome, not_both_modes}
+use Rattle.calc_session.specs.Results.{◌>>=◌}
 use Rattle.calc_session.specs.Body.{Form, Skip, Define, Ask, form_of}
-use Rattle.calc_session.specs.Session.{Setting, Defined, undefined, define, known, ◌>>=◌, polynomials_of, answer_of, line_answer, answer_to, reading_at, text_line, product_in, division_in, division_lines}
+use Rattle.calc_session.specs.Session.{Setting, Defined, undefined, define, known, polynomials_of, answer_of, line_answer, answer_to, reading_at, text_line, product_in, division_in, division_lines}
 use Rattle.calc_session.specs.declared.commands.Command.{Command}
 use Rattle.calc_session.specs.declared.commands.Command.TheVariants.{Show, Mul, Div, Rem}
 use Rattle.calc_session.specs.declared.fault.LineFault.{LineFault}

@@ -11,13 +11,15 @@ use Rattle.text_laws.specs.Denotes.{IsDenoted}
 use Rattle.text_laws.specs.declared.TextFault.{TextFault}
 use Rattle.poly_text.specs.Words.{words_of}
 use Rattle.calc_session.specs.Lines.{lines, effective}
-use Rattle.calc_session.specs.Header.{vars_of, ring_of, characteristic_of}
+use Rattle.calc_session.specs.Header.{vars_of, ring_of, order_of}
 use Rattle.calc_session.specs.Body.{Form, Skip, Define, Ask, form_of}
 use Rattle.calc_session.specs.Faults.{fault_line}
 use Rattle.calc_session.specs.Answers.{Answers, before, done, refused}
-use Rattle.calc_session.specs.Session.{Monomials, Setting, setting_of, Defined, undefined, define, at_column, text_line, division_in}
+use Rattle.calc_session.specs.Session.{Setting, setting_by, Defined, undefined, define, at_column, text_line, division_in}
 use Rattle.calc_session.specs.declared.commands.Command.{Command}
 use Rattle.calc_session.specs.declared.commands.Command.TheVariants.{Show, Mul, Div, Rem}
+use Rattle.calc_session.specs.declared.order.Order.{Order}
+use Rattle.calc_session.specs.declared.order.Order.TheVariants.{Grlex}
 use Rattle.calc_session.specs.declared.ring.RingChoice.{RingChoice}
 use Rattle.calc_session.specs.declared.fault.LineFault.{LineFault}
 use Rattle.calc_session.specs.declared.fault.LineFault.TheVariants.{VarsExpected, RingExpected, ArgumentCount, UnknownName, DegreeBound, CoefficientBound, TermBound, ZeroDivisor, NotUnit}
@@ -143,20 +145,32 @@ IsBody setting old number (line ∷ later) answers =
     ((now : Defined) × (piece : List ℕ) × (rest : Answers) × IsRight setting old line now piece × IsBody setting now (number + 1) later rest × (answers ≡ before piece rest))
     ⊎ ((fault : LineFault) × IsWrong setting old line fault × (answers ≡ refused (fault_line number fault)))
 
+-- these are the answers to the lines of a body, the first of which has this number, where the header chooses these variables, this ring and this order
+abbrev pub IsFromBody : List (List ℕ) → RingChoice → Order → ℕ → List (List ℕ) → Answers → Type 0
+IsFromBody variables ring order number lines answers = IsBody (setting_by variables ring order) undefined number lines answers
+
+-- from the third line that isn't skipped on, which has this number: it chooses the order, or is the first line of a body in graded lexicographic order, or has a fault
+abbrev pub IsFromOrder : List (List ℕ) → RingChoice → ℕ × List (List ℕ) → Answers → Type 0
+IsFromOrder variables ring (number, []) answers = IsFromBody variables ring Grlex number [] answers
+IsFromOrder variables ring (number, line ∷ later) answers =
+    ((order : Order) × (order_of line ≡ Ok (Some order)) × IsFromBody variables ring order (number + 1) later answers)
+    ⊎ ((order_of line ≡ Ok None) × IsFromBody variables ring Grlex number (line ∷ later) answers)
+    ⊎ ((fault : LineFault) × (order_of line ≡ Err fault) × (answers ≡ refused (fault_line number fault)))
+
 -- from the line with the ring on, which has this number
-abbrev pub IsFromRing : Monomials → List (List ℕ) → ℕ × List (List ℕ) → Answers → Type 0
-IsFromRing monomials variables (number, []) answers = answers ≡ refused (fault_line number RingExpected)
-IsFromRing monomials variables (number, line ∷ later) answers =
-    ((ring : RingChoice) × (ring_of (words_of line) ≡ Ok ring) × IsBody (setting_of monomials variables (characteristic_of ring)) undefined (number + 1) later answers)
+abbrev pub IsFromRing : List (List ℕ) → ℕ × List (List ℕ) → Answers → Type 0
+IsFromRing variables (number, []) answers = answers ≡ refused (fault_line number RingExpected)
+IsFromRing variables (number, line ∷ later) answers =
+    ((ring : RingChoice) × (ring_of (words_of line) ≡ Ok ring) × IsFromOrder variables ring (effective (number + 1) later) answers)
     ⊎ ((fault : LineFault) × (ring_of (words_of line) ≡ Err fault) × (answers ≡ refused (fault_line number fault)))
 
 -- from the line with the variables on, which has this number
-abbrev pub IsFromVars : Monomials → ℕ × List (List ℕ) → Answers → Type 0
-IsFromVars monomials (number, []) answers = answers ≡ refused (fault_line number VarsExpected)
-IsFromVars monomials (number, line ∷ later) answers =
-    ((variables : List (List ℕ)) × (vars_of (words_of line) ≡ Ok variables) × IsFromRing monomials variables (effective (number + 1) later) answers)
+abbrev pub IsFromVars : ℕ × List (List ℕ) → Answers → Type 0
+IsFromVars (number, []) answers = answers ≡ refused (fault_line number VarsExpected)
+IsFromVars (number, line ∷ later) answers =
+    ((variables : List (List ℕ)) × (vars_of (words_of line) ≡ Ok variables) × IsFromRing variables (effective (number + 1) later) answers)
     ⊎ ((fault : LineFault) × (vars_of (words_of line) ≡ Err fault) × (answers ≡ refused (fault_line number fault)))
 
--- these are the answers to the bytes, in such monomials
-abbrev pub IsAnswered : Monomials → List ℕ → Answers → Type 0
-IsAnswered monomials bytes answers = IsFromVars monomials (effective 1 (lines bytes)) answers
+-- these are the answers to the bytes
+abbrev pub IsAnswered : List ℕ → Answers → Type 0
+IsAnswered bytes answers = IsFromVars (effective 1 (lines bytes)) answers

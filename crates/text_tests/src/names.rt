@@ -1,4 +1,4 @@
-use poly_text::{Names, NamesFault, count_words};
+use poly_text::{MOST_NAMES, Names, NamesFault, count_words};
 use std::test::Fail;
 
 #[test]
@@ -17,4 +17,14 @@ fn refuses_words(rt: HostRuntime) {
     assert!(rt; matches!(repeated, Err(NamesFault::Repeated { index: 1 })));
     let none = Names::new(rt.alloc(), b"");
     assert!(rt; matches!(none, Err(NamesFault::Count)));
+}
+
+#[test]
+fn takes_fifteen_names(rt: HostRuntime) -> Result<(), Fail> {
+    assert_eq!(rt; MOST_NAMES, 15);
+    let names = Names::new(rt.alloc(), b"a b c d e f g h i j k l m n o")?;
+    assert_eq!(rt; names.len(), 15);
+    let more = Names::new(rt.alloc(), b"a b c d e f g h i j k l m n o p");
+    assert!(rt; matches!(more, Err(NamesFault::Count)));
+    Ok(())
 }

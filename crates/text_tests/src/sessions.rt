@@ -1,10 +1,12 @@
 use calc_session::{
-    BodySession, Command, Line, LineFault, RingChoice, demo_input, parse_header, parse_line,
-    parse_ring, parse_vars, split_line, write_fault, write_line, write_none, write_pair,
+    BodySession, Command, HeaderFault, Line, LineFault, Order, RingChoice, demo_input,
+    parse_header, parse_line, parse_order, parse_ring, parse_vars, split_line, write_fault,
+    write_line, write_none, write_pair,
 };
 use coeff_ring::Integers;
-use packed_monomial::Packed;
+use std::alloc::Global;
 use std::test::Fail;
+use wide_monomial::Wide;
 
 #[test]
 fn reads_headers(rt: HostRuntime) -> Result<(), Fail> {
@@ -20,6 +22,71 @@ fn reads_headers(rt: HostRuntime) -> Result<(), Fail> {
     assert_eq!(rt; parse_ring(b"ring mod 5 5"), Err(LineFault::RingExpected));
     assert_eq!(rt; parse_ring(b"ring mod -5"), Err(LineFault::BadModulus));
     Ok(())
+}
+
+#[test]
+fn reads_orders(rt: HostRuntime) {
+    let bad = Err(LineFault::BadOrder);
+    let rows = [
+        ("order grlex", Ok(Some(Order::Grlex))),
+        ("\torder  grlex ", Ok(Some(Order::Grlex))),
+        ("order", bad),
+        ("order lex", bad),
+        ("order grlex grlex", bad),
+        ("order = 1", Ok(None)),
+        ("orders grlex", Ok(None)),
+        ("show order", Ok(None)),
+    ];
+    for (line, wanted) in rows {
+        assert_eq!(rt; parse_order(line.as_bytes()), wanted, "{line}");
+    }
+}
+
+// how many variables there are, the ring, the order, and the number of the body's first line
+type Head = (usize, RingChoice, Order, u64);
+
+fn head_of(alloc: Global, input: &str) -> Result<Head, HeaderFault> {
+    let header = parse_header(alloc, input.as_bytes())?;
+    Ok((header.names.len(), header.ring, header.order, header.line))
+}
+
+fn refused(line: u64, fault: LineFault) -> Result<Head, HeaderFault> {
+    Err(HeaderFault { line, fault })
+}
+
+#[test]
+fn reads_whole_headers(rt: HostRuntime) {
+    let rows = [
+        (
+            "vars x x1 x2 x3 x4 x5 x6 x7 x8 x9 x10 x11 x12 x13 x14\nring Z\na = x^64\n",
+            Ok((15, RingChoice::Integers, Order::Grlex, 3)),
+        ),
+        (
+            "vars x y z\n\nring mod 7\n# order\norder grlex\na = x*z+y^2\nshow a\n",
+            Ok((3, RingChoice::Modulus(7), Order::Grlex, 6)),
+        ),
+        (
+            "vars x\nring Z\na = x\norder grlex\n",
+            Ok((1, RingChoice::Integers, Order::Grlex, 3)),
+        ),
+        (
+            "vars x\nring Z\norder = 1\n",
+            Ok((1, RingChoice::Integers, Order::Grlex, 3)),
+        ),
+        (
+            "vars x\nring Z\norder lex\n",
+            refused(3, LineFault::BadOrder),
+        ),
+        (
+            "vars a b c d e f g h i j k l m n o p\n",
+            refused(1, LineFault::VariableCount),
+        ),
+        ("", refused(1, LineFault::VarsExpected)),
+        ("vars x\nring\n", refused(2, LineFault::RingExpected)),
+    ];
+    for (input, header) in rows {
+        assert_eq!(rt; head_of(rt.alloc(), input), header, "{input}");
+    }
 }
 
 #[test]
@@ -47,7 +114,7 @@ fn answers_lines(rt: HostRuntime) -> Result<(), Fail> {
             })
         )
     );
-    let session = BodySession::<Integers, Packed<1>>::new(rt.alloc(), Integers, header.names);
+    let session = BodySession::<Integers, Wide<1>>::new(rt.alloc(), Integers, header.names);
     assert_eq!(rt; session.names().len(), 1);
     assert!(rt; matches!(session.look_up(b"a"), Err(LineFault::UnknownName)));
     Ok(())
@@ -64,7 +131,7 @@ fn names_commands(rt: HostRuntime) {
 fn shows_what_is_defined(rt: HostRuntime) -> Result<(), Fail> {
     let header = parse_header(rt.alloc(), b"vars x\nring Z\n")?;
     assert_eq!(rt; header.names.len(), 1);
-    let mut session = BodySession::<Integers, Packed<1>>::new(rt.alloc(), Integers, header.names);
+    let mut session = BodySession::<Integers, Wide<1>>::new(rt.alloc(), Integers, header.names);
     session.define(rt.alloc(), b"a", b"a = 7", 3)?;
     session.define(rt.alloc(), b"a", b"a = x*x - 3 + 2", 3)?;
     session.define(rt.alloc(), b"b", b"b = x", 3)?;

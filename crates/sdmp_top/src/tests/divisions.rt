@@ -17,6 +17,10 @@ fn divides(rt: HostRuntime) -> Result<(), Fail> {
             "x+y\ny^2+x+y\n",
         ),
         (
+            "vars x y z\nring Z\na = y^2\nb = x*z+y^2\nrem a b\n",
+            "0\ny^2\n",
+        ),
+        (
             "vars x\nring mod 6\na = x^2-1\nb = x-1\nshow a\ndiv a b\n",
             "x^2+5\nx+1\n",
         ),

@@ -1,3 +1,4 @@
+//! The gates of these tests, in one type: a run is made anew for each type of gate, with all that it calls.
 use crate::{Ends, MemorySink, MemorySource, Status, run};
 use std::sync::atomic::AtomicU64;
 use std::sync::atomic::Ordering::SeqCst;
@@ -7,15 +8,22 @@ use turnstile::Gate;
 
 const TURNS: u64 = 1_000_000_000;
 
-// Holds the first arrival of each of two workers until the other has arrived.
+/// Holds nobody, or the first arrival of each of two workers until the other has arrived.
 #[derive(Drop)]
-struct PairGate {
+pub enum TestGate {
+    Open,
+    Pair(Pair),
+}
+
+/// Which of two workers has arrived, and whether one has given up waiting for the other.
+#[derive(Drop)]
+pub struct Pair {
     first: AtomicU64,
     second: AtomicU64,
     given_up: AtomicU64,
 }
 
-impl PairGate {
+impl Pair {
     fn hold(&self, mine: &AtomicU64, other: &AtomicU64) {
         if mine.swap(1, SeqCst) == 1 {
             return;
@@ -30,12 +38,14 @@ impl PairGate {
     }
 }
 
-impl Gate for PairGate {
+impl Gate for TestGate {
     fn arrive(&self, worker: u32) {
-        if worker == 0 {
-            self.hold(&self.first, &self.second);
-        } else {
-            self.hold(&self.second, &self.first);
+        if let TestGate::Pair(pair) = self {
+            if worker == 0 {
+                pair.hold(&pair.first, &pair.second);
+            } else {
+                pair.hold(&pair.second, &pair.first);
+            }
         }
     }
 }
@@ -49,13 +59,17 @@ fn two_workers_run_beside_each_other(rt: HostRuntime) -> Result<(), Fail> {
             "vars x y\nring Z\na = x^2-y^2+x+y\nb = x-y+1\ndiv a b\n",
             "x+y\n",
         ),
+        (
+            "vars x y\nring Z\na = x^2*y+x*y^2+y^2\nb = x*y-1\nrem a b\n",
+            "x+y\ny^2+x+y\n",
+        ),
     ];
     for (session, text) in rows {
-        let gate = PairGate {
+        let gate = TestGate::Pair(Pair {
             first: AtomicU64::new(0),
             second: AtomicU64::new(0),
             given_up: AtomicU64::new(0),
-        };
+        });
         let mut source = MemorySource::new(session.as_bytes().to_vec(alloc)?, 8, Vec::new(alloc));
         let mut sink = MemorySink::new(alloc, 1_000, 4096, Vec::new(alloc))?;
         let words = [String::from_str(alloc, "--workers=2")?];
@@ -63,9 +77,12 @@ fn two_workers_run_beside_each_other(rt: HostRuntime) -> Result<(), Fail> {
         let status = run(&rt, alloc, &words, &mut source, &mut sink, &gate, &mut ends);
         assert_eq!(rt; status, Status::Done, "{session}");
         assert_eq!(rt; sink.bytes(), text.as_bytes(), "{session}");
-        assert_eq!(rt; gate.first.load(SeqCst), 1, "{session}");
-        assert_eq!(rt; gate.second.load(SeqCst), 1, "{session}");
-        assert_eq!(rt; gate.given_up.load(SeqCst), 0, "{session}");
+        let TestGate::Pair(pair) = gate else {
+            panic!(rt; "the gate of two workers")
+        };
+        assert_eq!(rt; pair.first.load(SeqCst), 1, "{session}");
+        assert_eq!(rt; pair.second.load(SeqCst), 1, "{session}");
+        assert_eq!(rt; pair.given_up.load(SeqCst), 0, "{session}");
     }
     Ok(())
 }

@@ -15,7 +15,10 @@ fn written<T: Threads + Sync>(
     for piece in pieces {
         session.extend_from_slice(piece)?;
     }
-    let (mut text, _) = answer(threads, alloc, &session, words, &STEADY)?;
+    let (mut text, ended) = answer(threads, alloc, &session, words, &STEADY)?;
+    if ended != Status::Done {
+        return Err(Fail::from("the session is refused"));
+    }
     text.pop();
     Ok(text)
 }

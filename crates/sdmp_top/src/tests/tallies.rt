@@ -1,8 +1,8 @@
+use super::gates::TestGate;
 use crate::{Ends, MemorySink, MemorySource, Status, run};
 use std::alloc::Global;
 use std::test::Fail;
 use std::thread::Threads;
-use turnstile::OpenGate;
 
 // products, notes, divisions and terms that a run with new counts counts, and its status
 fn counted<T: Threads + Sync>(
@@ -24,7 +24,7 @@ fn counted<T: Threads + Sync>(
         &list,
         &mut source,
         &mut sink,
-        &OpenGate,
+        &TestGate::Open,
         &mut ends,
     );
     let counts = [

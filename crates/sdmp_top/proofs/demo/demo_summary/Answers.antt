@@ -1,7 +1,6 @@
 use Rattle.std.proofs.Common.{◌≡◌, List, ℕ, ◌++◌, length, ap, ◌∙◌, arith}
 use Rattle.calc_session.specs.Answers.{text}
 use Rattle.calc_session.specs.Session.{answers}
-use Rattle.sdmp_top.specs.Monomials.{packed}
 use Rattle.calc_session.specs.Demo.{summary}
 use Rattle.sdmp_top.proofs.SummaryLemmas.{demo_summed, gathered_all}
 use Rattle.sdmp_top.proofs.demo.demo_summary.Goals as goal
@@ -12,5 +11,5 @@ returns-in-Ok-write_summary-clause-text g c =
     demo_summed c.args.seed c.len.result c.deref-2.result.now c.write_summary.new.out.items
     (long ∙ ap length c.in-Ok.ensures)
     (c.deref-2.ensures.value ∙ gathered_all _ _ _ c.new-gathered.ensures c.in-Ok-answer_input.ensures.text
-    ∙ ap (λ (bytes : List ℕ). text (answers packed bytes)) (c.deref.ensures.value ∙ c.in-Ok.ensures))
+    ∙ ap (λ (bytes : List ℕ). text (answers bytes)) (c.deref.ensures.value ∙ c.in-Ok.ensures))
     (c.in-Ok-write_summary.ensures ∙ ap (λ (l : List ℕ). l ++ summary c.args.seed c.len.result c.deref-2.result.now) c.new-text.ensures.items)
