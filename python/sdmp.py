@@ -38,6 +38,8 @@ STATUSES = {
 }
 # each command, with the numbers of its operands and of the lines that answer it
 COMMANDS = {'show': (1, 1), 'mul': (2, 1), 'div': (2, 1), 'rem': (2, 2)}
+# the order of a session that chooses none
+ORDER = 'grlex'
 FAULT = re.compile(r'line (\d+): (.*?)(?: at (\d+))?')
 TERM = re.compile(r'[+-]?[^+-]+')
 # how much of a faulty line is shown on each side of its fault
@@ -128,20 +130,22 @@ class Session:
     """Variables and a ring, and how the program is run.
 
     `variables` are a text or a list of names, or of SymPy symbols, the greatest
-    first. `modulus` is that of the residues, or None for the integers. `workers`
-    and `places` are the program's options; they change no answer. `program` is
-    the path of the program, else the environment's SDMP, else `sdmp` in the
-    folder above this module's.
+    first. `modulus` is that of the residues, or None for the integers. `order`
+    is the word of the monomials' order, or None for the program's own choice.
+    `workers` and `places` are the program's options; they change no answer.
+    `program` is the path of the program, else the environment's SDMP, else
+    `sdmp` in the folder above this module's.
 
     Wherever a polynomial is asked for, all that `poly` takes will do.
     """
 
-    def __init__(self, variables, modulus=None, workers=None, places=None, program=None):
+    def __init__(self, variables, modulus=None, order=None, workers=None, places=None, program=None):
         names = variables.split() if isinstance(variables, str) else [str(name) for name in variables]
         if any(name.split() != [name] for name in names):
             raise ValueError('a variable is one word: %r' % names)
         self.variables = tuple(names)
         self.modulus = None if modulus is None else operator.index(modulus)
+        self.order = order
         program = program or os.environ.get('SDMP') or os.path.join(os.path.dirname(HERE), 'sdmp')
         self.command = [program]
         for option, number in (('--workers', workers), ('--places', places)):
@@ -185,13 +189,16 @@ class Session:
         return answers
 
     def _is_alike(self, other):
-        """Has the same variables and the same ring."""
-        return self.variables == other.variables and self.modulus == other.modulus
+        """Has the same variables, the same ring and the same order."""
+        orders = {session.order or ORDER for session in (self, other)}
+        return self.variables == other.variables and self.modulus == other.modulus and len(orders) == 1
 
     def _lines(self, commands):
         """The lines of a session with these commands, and the numbers of the commands' lines."""
         ring = 'Z' if self.modulus is None else 'mod %d' % self.modulus
         lines = ['vars ' + ' '.join(self.variables), 'ring ' + ring]
+        if self.order is not None:
+            lines.append('order %s' % self.order)
         names, asked, fresh = {}, [], self._fresh_names()
         for word, *operands in commands:
             if word not in COMMANDS or len(operands) != COMMANDS[word][0]:

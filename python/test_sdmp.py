@@ -91,6 +91,14 @@ class Commands(unittest.TestCase):
         self.assertIsNone(session.div(a, 'x+y'))
         self.assertEqual([str(part) for part in session.rem('x^2+1', b)], ['x+y', 'y^2+1'])
 
+    def test_an_order_is_chosen(self):
+        session = sdmp.Session('x y z', order='grlex')
+        self.assertEqual(str(session.poly('y^2+x*z')), 'x*z+y^2')
+        self.assertEqual(session.poly('x'), sdmp.Session('x y z').poly('x'))
+        with self.assertRaises(sdmp.Fault) as caught:
+            sdmp.Session('x', order='lex')
+        self.assertEqual((caught.exception.text, caught.exception.line), ('bad order', 3))
+
     def test_residues(self):
         session = sdmp.Session('x', modulus=6)
         self.assertEqual(str(session.mul('2*x', {(1,): 3})), '0')
