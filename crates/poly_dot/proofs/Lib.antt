@@ -1,0 +1,6 @@
+pub mod PairLemmas
+pub mod SumsOver
+pub mod HeadPlaces
+pub mod HeadSteps
+pub mod HeadSums
+pub mod HeadCounts
