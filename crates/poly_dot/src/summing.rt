@@ -1,13 +1,14 @@
 //! The sum by workers in threads, which share nothing.
-ghost use Rattle.std.specs.Prelude.{◌≡◌, ◌<◌, ◌≤◌, ◌^◌, ℕ, length, map, slice_index_or, All, IfOk};
+ghost use Rattle.std.specs.Prelude.{◌≡◌, ◌<◌, ◌≤◌, ℕ, length, map, slice_index_or, All, IfOk, IsFalse};
 ghost use Rattle.sdmp_laws.specs.Poly.{norm, terms};
 ghost use Rattle.sdmp_laws.specs.Limits.{greatest_norm};
 ghost use Rattle.sdmp_laws.specs.Canonical.{IsCanonical};
 ghost use Rattle.canonical_terms.specs.View.{sum_of};
 ghost use Rattle.dot_laws.specs.Sums.{dot};
-ghost use Rattle.poly_dot.specs.Heads.{all_of, rest_at};
+ghost use Rattle.poly_dot.specs.Heads.{all_of};
 ghost use Rattle.poly_dot.specs.Sources.{modulus_of, rest_of};
-ghost use Rattle.poly_dot.specs.Parts.{AreParts, IsOfRing, IsListOf};
+ghost use Rattle.poly_dot.specs.Held.{factors_of, AreVectors};
+ghost use Rattle.poly_dot.specs.Parts.{AreParts, Collects};
 
 use crate::merging::DotMerge;
 use crate::multiway::MultiwayMerge;
@@ -25,12 +26,14 @@ use turnstile::Gate;
 // a thread is worth its start where so many products are to be made in it
 const THREAD_PRODUCTS: usize = 4096;
 
-// What a worker works on: its merge, and the list that it collects.
+// What a worker works on: its merge, and the list that it collects, unless memory is wanting.
 #[derive(Drop)]
 struct Share<'a, R: CoeffRing, M: Monomial> {
+    worker: u32,
     alloc: Global,
     merge: DotMerge<'a, R, M>,
-    list: Result<Vec<Term<R, M>>, NoMemory>,
+    list: Vec<Term<R, M>>,
+    failed: bool,
 }
 
 // what each worker works on: of the pairs at the places i with i mod workers = worker
@@ -39,22 +42,32 @@ fn shares_of<'a, R: CoeffRing, M: Monomial>(
     dot: &Dot<'a, R, M>,
     workers: u32,
 ) -> Result<Vec<Share<'a, R, M>>, NoMemory>
-    requires workers { 0 < workers }
-    ensures count { IfOk result (λ v. length v.items ≡ workers) }
     ensures moduli { IfOk result (λ v. All (λ s. s.merge.modulus ≡ dot.now.modulus) v.items) }
-    ensures canonical { IfOk result (λ v. All (λ s. IsCanonical M.order dot.now.modulus M.VARS M.LIM s.merge.rest) v.items) }
-    ensures rests { IfOk result (λ v. AreParts M.order dot.now.modulus workers dot.now.pairs (map (λ s. s.merge.rest) v.items)) }
+    ensures rests { IfOk result (λ v. AreParts M.order dot.now.modulus M.VARS M.LIM workers dot.now.pairs (map (λ s. s.merge.rest) v.items)) }
 {
     let mut shares = Vec::new(alloc);
     for worker in 0..workers {
         let merge = dot.merge(alloc, workers, worker)?;
         shares.push(Share {
+            worker,
             alloc,
             merge,
-            list: Ok(Vec::new(alloc)),
+            list: Vec::new(alloc),
+            failed: false,
         })?;
     }
     Ok(shares)
+}
+
+// the worker arrives at the gate, and collects its terms
+fn collect<R: CoeffRing, M: Monomial, G: Gate>(share: &mut Share<'_, R, M>, gate: &G)
+    ensures { Collects M.vector R.value R.belongs share.old share.new }
+{
+    gate.arrive(share.worker);
+    match share.merge.all(share.alloc) {
+        Ok(list) => share.list = list,
+        Err(NoMemory) => share.failed = true,
+    }
 }
 
 // each worker collects its terms, in so many threads at most
@@ -65,13 +78,12 @@ fn collect_all<T: Threads + Sync, R: CoeffRing, M: Monomial, G: Gate>(
     gate: &G,
 )
     requires most { 0 < most }
-    requires few { length shares.old < 2 ^ 32 }
-    ensures belongs { (p : ℕ) → All (λ s. s.merge.modulus ≡ p) shares.old → All (λ s. IsOfRing (R.belongs p) s.list) shares.new }
-    ensures lists { (w : ℕ) (before : _) (after : _) → w < length shares.old → IsListOf M.vector R.value (slice_index_or shares.old w before).merge.rest (slice_index_or shares.new w after).list }
+    ensures { (w : ℕ) (d : _) → w < length shares.old → Collects M.vector R.value R.belongs (slice_index_or shares.old w d) (slice_index_or shares.new w d) }
 {
-    let each = |worker: usize, share: &mut Share<'_, R, M>| {
-        gate.arrive(worker as u32);
-        share.list = share.merge.all(share.alloc);
+    let each = |_: usize, share: &mut Share<'_, R, M>|
+        ensures { Collects M.vector R.value R.belongs share.entry.now share.exit.now }
+    {
+        collect(share, gate);
     };
     thread::for_each_mut(threads, shares, most, &each);
 }
@@ -82,22 +94,26 @@ fn readers_of<'a, R: CoeffRing, M: Monomial>(
     ring: R,
     shares: Vec<Share<'a, R, M>>,
 ) -> Result<Vec<Source<'a, R, M>>, NoMemory>
-    requires belongs { All (λ s. IsOfRing (R.belongs (R.characteristic ring)) s.list) shares.items }
+    requires belongs { All (λ s. IsFalse s.failed → All (λ t. R.belongs (R.characteristic ring) t.coef) s.list.items) shares.items }
     ensures moduli { IfOk result (λ v. All (λ s. modulus_of s ≡ R.characteristic ring) v.items) }
-    ensures count { IfOk result (λ v. length v.items ≡ length shares.entry.items) }
-    ensures lists { IfOk result (λ v. (w : ℕ) (share : _) → w < length shares.entry.items → IsListOf M.vector R.value (rest_at (map rest_of v.items) w) (slice_index_or shares.entry.items w share).list) }
+    ensures whole { IfOk result (λ _. All (λ s. IsFalse s.failed) shares.entry.items) }
+    ensures lists { IfOk result (λ v. map rest_of v.items ≡ map (λ s. sum_of M.vector R.value s.list.items) shares.entry.items) }
 {
     let mut readers: Vec<Source<'a, R, M>> = Vec::new(alloc);
     for share in shares {
+        if share.failed {
+            return Err(NoMemory);
+        }
         let Share { list, .. } = share;
-        let reader = TermReader::new(ring, list?);
-        readers.push(Source::Listed(reader))?;
+        readers.push(Source::Listed(TermReader::new(ring, list)))?;
     }
     Ok(readers)
 }
 
 // how many products of two terms all pairs have, up to the greatest word
-fn product_count<R: CoeffRing, M: Monomial>(pairs: &[Pair<'_, R, M>]) -> usize {
+fn product_count<R: CoeffRing, M: Monomial>(pairs: &[Pair<'_, R, M>]) -> usize
+    ensures vectors { All (AreVectors M.VARS) (map factors_of pairs.now) }
+{
     let mut count = 0usize;
     for pair in pairs {
         let products = pair.f.terms().len().saturating_mul(pair.g.terms().len());
