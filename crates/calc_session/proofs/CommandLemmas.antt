@@ -37,7 +37,7 @@ pub bind_err : {A B E : Type 0} (r : Result A E) (fault : E) (f : A → Result B
 bind_err r fault f e = ap (λ x. x >>= f) e
 
 -- ---- the product
-degree_over : (lim : ℕ) (f g : List Term) → is_degree_over lim f g ≡ true → IsDegreeOver lim f g
+pub degree_over : (lim : ℕ) (f g : List Term) → is_degree_over lim f g ≡ true → IsDegreeOver lim f g
 unfolding lm
 degree_over lim [] g h = let wrong : false ≡ true = h in absurd cc
 degree_over lim (s ∷ f) [] h = let wrong : false ≡ true = h in absurd cc
@@ -47,7 +47,7 @@ degree_over lim (s ∷ f) (t ∷ g) h = record {
   over = ltb-true lim (degree s.monomial + degree t.monomial) h;
 }
 
-is_over : (lim : ℕ) (f g : List Term) → IsDegreeOver lim f g → is_degree_over lim f g ≡ true
+pub is_over : (lim : ℕ) (f g : List Term) → IsDegreeOver lim f g → is_degree_over lim f g ≡ true
 unfolding lm
 is_over lim [] g h = absurd (h.left refl)
 is_over lim (s ∷ f) [] h = absurd (h.right refl)
@@ -62,7 +62,7 @@ norm_over p f g h = record {
 is_above : (p : ℕ) (f g : List Term) → IsNormOver p f g → is_norm_over p f g ≡ true
 is_above p f g h = ap (λ (q : ℕ). eqb q 0 && ltb greatest_norm (norm f * norm g)) h.integers ∙ lt-ltb greatest_norm (norm f * norm g) h.over
 
-refuted : (b : Bool) → (b ≡ true → ⊥) → b ≡ false
+pub refuted : (b : Bool) → (b ≡ true → ⊥) → b ≡ false
 refuted true h = absurd (h refl)
 refuted false h = refl
 

@@ -6,7 +6,7 @@ use Rattle.sdmp_laws.specs.Limits.{greatest_norm, IsDegreeOver}
 use Rattle.dot_laws.specs.Sums.{Factors, dot, norms, IsSumOver, HasRoomBeside}
 use Rattle.calc_session.specs.Product.{is_degree_over}
 use Rattle.calc_session.specs.declared.fault.LineFault.{LineFault}
-use Rattle.calc_session.specs.declared.fault.LineFault.TheVariants.{DegreeBound, CoefficientBound, NoMemory}
+use Rattle.calc_session.specs.declared.fault.LineFault.TheVariants.{DegreeBound, CoefficientBound}
 
 -- the polynomials two by two
 abbrev pub pairs_of : List (List Term) → List Factors
