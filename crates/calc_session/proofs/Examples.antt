@@ -52,6 +52,19 @@ no_argument : third (codes "show") ≡ refused (codes "line 3: argument count\n"
 unfolding answers head_of digits fault_words fault_column cut_lines without_return words_of word_fault fault_behind effective modulus_of definition command_of answer_to body_answers
 no_argument = refl
 
+one_factor : third (codes "dot x") ≡ refused (codes "line 3: argument count\n")
+unfolding answers head_of digits fault_words fault_column cut_lines without_return words_of word_fault fault_behind effective modulus_of definition command_of answer_to body_answers
+one_factor = refl
+
+no_factor : third (codes "dot") ≡ refused (codes "line 3: argument count\n")
+unfolding answers head_of digits fault_words fault_column cut_lines without_return words_of word_fault fault_behind effective modulus_of definition command_of answer_to body_answers
+no_factor = refl
+
+-- a name is looked up before the pairs are
+no_factors : third (codes "dot x y") ≡ refused (codes "line 3: unknown name\n")
+unfolding answers head_of digits fault_words fault_column cut_lines without_return words_of word_fault fault_behind effective modulus_of definition command_of answer_to body_answers
+no_factors = refl
+
 late_header : third (codes "vars y") ≡ refused (codes "line 3: unknown command\n")
 unfolding answers head_of digits fault_words fault_column cut_lines without_return words_of word_fault fault_behind effective modulus_of definition command_of answer_to body_answers
 late_header = refl

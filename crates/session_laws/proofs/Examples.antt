@@ -18,10 +18,12 @@ use Rattle.calc_session.specs.Header.{modulus_of, order_named}
 use Rattle.calc_session.specs.Heads.{head_of}
 use Rattle.calc_session.specs.Commands.{command_of}
 use Rattle.calc_session.specs.Body.{Define, Ask, definition}
+use Rattle.dot_laws.specs.Sums.{dot, norms}
 use Rattle.calc_session.specs.Product.{product}
-use Rattle.calc_session.specs.Session.{Setting, setting_by, Defined, undefined, define, answers, body_answers, answer_to, reading_at, text_line, product_in, division_lines}
+use Rattle.calc_session.specs.Sum.{first_fault, sum_of_products}
+use Rattle.calc_session.specs.Session.{Setting, setting_by, Defined, undefined, define, answers, body_answers, answer_to, reading_at, text_line, product_in, sum_in, division_lines}
 use Rattle.calc_session.specs.declared.commands.Command.TheVariants.{Show}
-use Rattle.calc_session.specs.declared.ending.Ending.TheVariants.{Done}
+use Rattle.calc_session.specs.declared.ending.Ending.TheVariants.{Done, Refused}
 use Rattle.calc_session.specs.declared.order.Order.TheVariants.{Grlex}
 use Rattle.calc_session.specs.declared.ring.RingChoice.TheVariants.{Integers}
 use Rattle.session_laws.specs.Answered.{IsCanonicalList, IsRead, IsAnswered}
@@ -87,6 +89,31 @@ divisions_are = refl
 
 divisions_answered : IsAnswered divisions (all (codes "x+1\n" ∷ codes "x\n-1\n" ∷ codes "none\n" ∷ []))
 divisions_answered = by_law divisions (all (codes "x+1\n" ∷ codes "x\n-1\n" ∷ codes "none\n" ∷ [])) divisions_are
+
+-- (x + 1)*(x - 1) + 1*1 = x^2
+abbrev products : List ℕ
+products = codes "vars x\nring Z\na = x+1\nb = x-1\nc = 1\ndot a b c c\n"
+
+products_are : answers products ≡ all (codes "x^2\n" ∷ [])
+unfolding answers head_of digits cut_lines without_return words_of word_fault fault_behind effective definition command_of answer_to body_answers reading_at denotes class_of text_line sum_in sum_of_products first_fault dot norms times row term_times ◌⋅◌ norm terms put keep is_zero term_plus alike is_below tie_below lex_below degree
+products_are = refl
+
+products_answered : IsAnswered products (all (codes "x^2\n" ∷ []))
+products_answered = by_law products (all (codes "x^2\n" ∷ [])) products_are
+
+-- 2^126*1 has room, and no room beside itself
+abbrev great_products : List ℕ
+great_products = codes "vars x\nring Z\na = 85070591730234615865843651857942052864\nb = 1\ndot a b\ndot a b a b\n"
+
+abbrev great_answers : Answers
+great_answers = record { pieces = codes "85070591730234615865843651857942052864\n" ∷ codes "line 6: coefficient bound\n" ∷ []; ending = Refused }
+
+great_products_are : answers great_products ≡ great_answers
+unfolding answers head_of digits cut_lines without_return words_of word_fault fault_behind effective definition command_of answer_to body_answers reading_at denotes class_of text_line fault_words fault_column sum_in sum_of_products first_fault dot norms times row term_times ◌⋅◌ norm terms put keep is_zero term_plus alike is_below tie_below lex_below degree
+great_products_are = refl
+
+great_products_answered : IsAnswered great_products great_answers
+great_products_answered = by_law great_products great_answers great_products_are
 
 -- no number stands behind a star: the fault of the third line ends the session
 abbrev faulty : List ℕ

@@ -11,12 +11,17 @@ use Rattle.calc_session.specs.Results.{◌>>=◌}
 use Rattle.calc_session.specs.Body.{Form, Skip, Define, Ask, form_of}
 use Rattle.calc_session.specs.Session.{Setting, Defined, undefined, define, known, polynomials_of, answer_of, line_answer, answer_to, reading_at, text_line, product_in, division_in, division_lines}
 use Rattle.calc_session.specs.declared.commands.Command.{Command}
-use Rattle.calc_session.specs.declared.commands.Command.TheVariants.{Show, Mul, Div, Rem}
+use Rattle.calc_session.specs.declared.commands.Command.TheVariants.{Show, Mul, Div, Rem, Dot}
 use Rattle.calc_session.specs.declared.fault.LineFault.{LineFault}
 use Rattle.calc_session.specs.declared.fault.LineFault.TheVariants.{ArgumentCount, UnknownName, CoefficientBound, TermBound, ZeroDivisor, NotUnit}
+use Rattle.calc_session.proofs.SumLemmas.{dot_ok, dot_err, dot_count}
 use Rattle.calc_session.proofs.CommandLemmas.{ArePolynomials, bind_ok, bind_err, show_ok, mul_ok, div_ok, div_none, rem_ok, lines_err}
-use Rattle.session_laws.specs.Answered.{IsRead, IsUnread, HasProduct, HasNoProduct, IsUndivided, StandFor, IsUnknown, Writes, Refuses, Does, Fails, IsRight, IsWrong}
+use Rattle.dot_laws.specs.Sums.{Factors}
+use Rattle.calc_session.specs.Commands.{takes}
+use Rattle.calc_session.specs.Sum.{pairs_of}
+use Rattle.session_laws.specs.Answered.{IsRead, IsUnread, HasProduct, HasNoProduct, ArePairs, HasSum, HasNoSum, IsUndivided, StandFor, IsUnknown, Writes, Refuses, Does, Fails, IsRight, IsWrong}
 use Rattle.session_laws.proofs.Polynomials.{read_is, unread_is, read_some, product_is, no_product, product_some}
+use Rattle.session_laws.proofs.Pairs.{AreOver, pairs_are, are_many, are_pairs, pairs_over, sum_of_pairs, sums_some}
 
 -- a list of terms is a polynomial of the setting
 abbrev pub IsPolyIn : Setting → List Term → Type 0
@@ -53,6 +58,10 @@ module _ (setting : Setting) where
   ArePolys [] = Unit {0}
   ArePolys (f ∷ fs) = IsPolyIn setting f × ArePolys fs
 
+  polys_over : (fs : List (List Term)) → ArePolys fs → AreOver (length setting.variables) fs
+  polys_over [] o = tt
+  polys_over (f ∷ fs) o = (o.0.vectors, polys_over fs o.1)
+
   both : (f g : List Term) → IsPolyIn setting f → IsPolyIn setting g → ArePolynomials setting (length setting.variables) setting.modulus f g
   both f g o q = record { modulus = refl; variables = refl; dividend = o; divisor = q }
 
@@ -66,6 +75,8 @@ module _ (setting : Setting) where
       div_none setting (length setting.variables) setting.modulus f g (both f g o.0 o.1.0) piece (none.within, refl, none.none) e
   writes_is Rem (f ∷ g ∷ []) o piece (q, r, remainder, e) =
       rem_ok setting (length setting.variables) setting.modulus f g (both f g o.0 o.1.0) piece q r (remainder.within, refl, remainder.remainder) e
+  writes_is Dot fs o piece (qs, pairs, h, sum, e) =
+      dot_ok setting fs setting.modulus refl (are_many fs qs pairs) piece h (sum_of_pairs setting fs qs h (polys_over fs o) pairs sum) e
   writes_is _ _ o piece h = absurd h
 
   undivided_is : (mode : Mode) (f g : List Term) (fault : LineFault) → ArePolynomials setting (length setting.variables) setting.modulus f g
@@ -82,6 +93,13 @@ module _ (setting : Setting) where
   refuses_is Mul (f ∷ g ∷ []) o fault h = bind_err (product_in setting f g) fault (λ h. Ok (text_line setting h)) (no_product setting f g fault h)
   refuses_is Div (f ∷ g ∷ []) o fault h = undivided_is Exact f g fault (both f g o.0 o.1.0) h
   refuses_is Rem (f ∷ g ∷ []) o fault h = undivided_is Remainder f g fault (both f g o.0 o.1.0) h
+  refuses_is Dot fs o fault (inl (qs, pairs, none)) =
+      dot_err setting fs setting.modulus refl (are_many fs qs pairs) fault (subst (λ (l : List Factors). HasNoSum setting l fault) (pairs_are fs qs pairs) none)
+  refuses_is Dot fs o fault (inr (none, e)) = by (takes Dot (length fs)) refl
+    where
+      by : (b : Bool) → takes Dot (length fs) ≡ b → answer_of setting Dot fs ≡ Err fault
+      by true many = absurd (none (pairs_of fs) (are_pairs fs many))
+      by false other = dot_count setting fs other ∙ ap (λ f. Err f) (sym e)
   refuses_is _ _ o fault h = ap (λ f. Err f) (sym h)
 
   abbrev WritesOrRefuses : Command → List (List Term) → Type 0
@@ -119,6 +137,15 @@ module _ (setting : Setting) where
       by (outcome.HasQuotient q, h) = absurd (not_both_modes Remainder h.1 refl)
       by (outcome.HasNoQuotient, h) = absurd (not_both_modes Remainder h.1 refl)
       by (outcome.HasRemainder q r, h) = inl (text_line setting q ++ text_line setting r, (q, r, record { within = h.0; remainder = h.2 }, refl))
+  command_some Dot fs o = by (takes Dot (length fs)) refl
+    where
+      of_pairs : ArePairs fs (pairs_of fs) → ((h : List Term) × HasSum setting (pairs_of fs) h) ⊎ ((fault : LineFault) × HasNoSum setting (pairs_of fs) fault) → WritesOrRefuses Dot fs
+      of_pairs pairs (inl (h, is)) = inl (text_line setting h, (pairs_of fs, pairs, h, is, refl))
+      of_pairs pairs (inr (fault, is)) = inr (fault, inl (pairs_of fs, pairs, is))
+
+      by : (b : Bool) → takes Dot (length fs) ≡ b → WritesOrRefuses Dot fs
+      by true many = of_pairs (are_pairs fs many) (sums_some setting (pairs_of fs) (pairs_over (length setting.variables) fs (polys_over fs o)))
+      by false other = inr (ArgumentCount, inr ((λ qs pairs. absurd (let wrong : true ≡ false = sym (are_many fs qs pairs) ∙ other in cc)), refl))
   command_some _ _ o = inr (ArgumentCount, refl)
 
 -- ---- names

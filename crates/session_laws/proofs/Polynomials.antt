@@ -21,10 +21,10 @@ use Rattle.session_laws.specs.Answered.{IsCanonicalList, IsRead, IsUnread, HasPr
 
 module _ (setting : Setting) where
   -- a sum's list is the computed one
-  sum_is : (L F : List Term) → Over (length setting.variables) F → IsCanonicalList setting L F → L ≡ terms setting.order setting.modulus F
+  pub sum_is : (L F : List Term) → Over (length setting.variables) F → IsCanonicalList setting L F → L ≡ terms setting.order setting.modulus F
   sum_is L F o s = terms_only setting.order setting.modulus (length setting.variables) L F o s
 
-  sum_some : (F : List Term) → Over (length setting.variables) F → IsCanonicalList setting (terms setting.order setting.modulus F) F
+  pub sum_some : (F : List Term) → Over (length setting.variables) F → IsCanonicalList setting (terms setting.order setting.modulus F) F
   sum_some F o = terms_is setting.order setting.modulus (length setting.variables) F o
 
   -- ---- texts

@@ -1,5 +1,5 @@
 -- What a session answers, by relations: the grammar says what a text denotes, the one canonical list of a sum says which polynomial that is, and each kind of line has its rule.
-use Rattle.std.specs.Prelude.{◌≡◌, ◌≢◌, ◌⊎◌, ◌+◌, ◌++◌, ℕ, List, [], ◌∷◌, length, map, drop, codes, Any, Some, None, Ok, Err}
+use Rattle.std.specs.Prelude.{◌≡◌, ◌≢◌, ◌≤◌, ◌⊎◌, ◌+◌, ◌++◌, ℕ, List, [], ◌∷◌, length, map, drop, codes, Any, Some, None, Ok, Err}
 use Rattle.sdmp_laws.specs.Ring.{IsUnit}
 use Rattle.sdmp_laws.specs.Poly.{Term, times, lc, IsTerms}
 use Rattle.sdmp_laws.specs.Division.{IsAccepted, IsExact, IsRem}
@@ -7,17 +7,19 @@ use Rattle.sdmp_laws.specs.Limits.{IsDegreeOver, IsNormOver, HasRoom}
 use Rattle.sdmp_laws.specs.declared.Mode.{Mode}
 use Rattle.sdmp_laws.specs.declared.Mode.TheVariants.{Exact, Remainder}
 use Rattle.division_laws.specs.Outcome.{PassesEarly, IsLong, IsWithin}
+use Rattle.dot_laws.specs.Sums.{Factors, dot}
 use Rattle.text_laws.specs.Denotes.{IsDenoted}
 use Rattle.text_laws.specs.declared.TextFault.{TextFault}
 use Rattle.poly_text.specs.Words.{words_of}
 use Rattle.calc_session.specs.Lines.{lines, effective}
 use Rattle.calc_session.specs.Header.{vars_of, ring_of, order_of}
 use Rattle.calc_session.specs.Body.{Form, Skip, Define, Ask, form_of}
+use Rattle.calc_session.specs.Sum.{HaveRoom, IsSumRefused}
 use Rattle.calc_session.specs.Faults.{fault_line}
 use Rattle.calc_session.specs.Answers.{Answers, before, done, refused}
 use Rattle.calc_session.specs.Session.{Setting, setting_by, Defined, undefined, define, at_column, text_line, division_in}
 use Rattle.calc_session.specs.declared.commands.Command.{Command}
-use Rattle.calc_session.specs.declared.commands.Command.TheVariants.{Show, Mul, Div, Rem}
+use Rattle.calc_session.specs.declared.commands.Command.TheVariants.{Show, Mul, Div, Rem, Dot}
 use Rattle.calc_session.specs.declared.order.Order.{Order}
 use Rattle.calc_session.specs.declared.order.Order.TheVariants.{Grlex}
 use Rattle.calc_session.specs.declared.ring.RingChoice.{RingChoice}
@@ -52,6 +54,25 @@ HasNoProduct setting f g DegreeBound = IsDegreeOver setting.limit f g
 HasNoProduct setting f g CoefficientBound = (IsDegreeOver setting.limit f g → ⊥) × IsNormOver setting.modulus f g
 HasNoProduct setting f g _ = ⊥
 
+-- the polynomials two by two: a factor and a factor, from one pair to 32
+abbrev pub factors : List Factors → List (List Term)
+factors [] = []
+factors (q ∷ qs) = q.f ∷ q.g ∷ factors qs
+
+pub record ArePairs (fs : List (List Term)) (qs : List Factors) : Type 0 where
+  pub listed : fs ≡ factors qs
+  pub some : 1 ≤ length qs
+  pub few : length qs ≤ 32
+
+-- h is the sum of the products of the pairs, each of which has room beside those before it
+pub record HasSum (setting : Setting) (qs : List Factors) (h : List Term) : Type 0 where
+  pub room : HaveRoom setting.limit setting.modulus [] qs
+  pub sum : IsCanonicalList setting h (dot qs)
+
+-- a pair has no room beside those before it, which have: its fault is that of the sum
+abbrev pub HasNoSum : Setting → List Factors → LineFault → Type 0
+HasNoSum setting qs fault = IsSumRefused setting.limit setting.modulus qs fault
+
 -- f = q*g, within the bounds
 pub record HasQuotient (setting : Setting) (f g q : List Term) : Type 0 where
   pub within : IsWithin (division_in setting Exact f g)
@@ -77,13 +98,14 @@ IsUndivided mode setting f g TermBound =
 IsUndivided mode setting f g _ = ⊥
 
 -- ---- commands
--- a command writes this piece of polynomials: `show` the polynomial, `mul` the product, `div` the quotient or that there is none, `rem` the quotient and then the remainder
+-- a command writes this piece of polynomials: `show` the polynomial, `mul` the product, `div` the quotient or that there is none, `rem` the quotient and then the remainder, `dot` the sum of the products of pairs
 abbrev pub Writes : Setting → Command → List (List Term) → List ℕ → Type 0
 Writes setting Show (f ∷ []) piece = piece ≡ text_line setting f
 Writes setting Mul (f ∷ g ∷ []) piece = (h : List Term) × HasProduct setting f g h × (piece ≡ text_line setting h)
 Writes setting Div (f ∷ g ∷ []) piece =
     ((q : List Term) × HasQuotient setting f g q × (piece ≡ text_line setting q)) ⊎ (HasNoQuotient setting f g × (piece ≡ codes "none\n"))
 Writes setting Rem (f ∷ g ∷ []) piece = (q : List Term) × (r : List Term) × HasRemainder setting f g q r × (piece ≡ text_line setting q ++ text_line setting r)
+Writes setting Dot fs piece = (qs : List Factors) × ArePairs fs qs × (h : List Term) × HasSum setting qs h × (piece ≡ text_line setting h)
 Writes setting _ _ piece = ⊥
 
 -- a command has this fault of polynomials, among them that they are not as many as it takes
@@ -92,6 +114,8 @@ Refuses setting Show (f ∷ []) fault = ⊥
 Refuses setting Mul (f ∷ g ∷ []) fault = HasNoProduct setting f g fault
 Refuses setting Div (f ∷ g ∷ []) fault = IsUndivided Exact setting f g fault
 Refuses setting Rem (f ∷ g ∷ []) fault = IsUndivided Remainder setting f g fault
+Refuses setting Dot fs fault =
+    ((qs : List Factors) × ArePairs fs qs × HasNoSum setting qs fault) ⊎ (((qs : List Factors) → ArePairs fs qs → ⊥) × (fault ≡ ArgumentCount))
 Refuses setting _ _ fault = fault ≡ ArgumentCount
 
 -- ---- lines

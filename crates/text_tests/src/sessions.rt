@@ -1,7 +1,7 @@
 use calc_session::{
-    BodySession, Command, HeaderFault, Line, LineFault, Order, RingChoice, demo_input,
-    parse_header, parse_line, parse_order, parse_ring, parse_vars, split_line, write_fault,
-    write_line, write_none, write_pair,
+    BodySession, Command, HeaderFault, Line, LineFault, MOST_FACTORS, Order, RingChoice,
+    demo_input, parse_header, parse_line, parse_order, parse_ring, parse_vars, split_line,
+    write_fault, write_line, write_none, write_pair,
 };
 use coeff_ring::Integers;
 use std::alloc::Global;
@@ -125,6 +125,12 @@ fn names_commands(rt: HostRuntime) {
     assert_eq!(rt; Command::of_word(b"rem"), Some(Command::Rem));
     assert!(rt; Command::Rem.takes(2));
     assert!(rt; !Command::Show.takes(2));
+    assert_eq!(rt; Command::of_word(b"dot"), Some(Command::Dot));
+    assert!(rt; Command::Dot.takes(2));
+    assert!(rt; Command::Dot.takes(MOST_FACTORS));
+    assert!(rt; !Command::Dot.takes(0));
+    assert!(rt; !Command::Dot.takes(3));
+    assert!(rt; !Command::Dot.takes(66));
 }
 
 #[test]
