@@ -125,6 +125,9 @@ fn names_commands(rt: HostRuntime) {
     assert_eq!(rt; Command::of_word(b"rem"), Some(Command::Rem));
     assert!(rt; Command::Rem.takes(2));
     assert!(rt; !Command::Show.takes(2));
+    assert_eq!(rt; Command::of_word(b"dot"), Some(Command::Dot));
+    assert!(rt; Command::Dot.takes(64));
+    assert!(rt; !Command::Dot.takes(3));
 }
 
 #[test]
