@@ -6,6 +6,7 @@ pub mod Commands
 pub mod Body
 pub mod Product
 pub mod Quotient
+pub mod Sum
 pub mod Results
 pub mod Heads
 pub mod Session

@@ -13,14 +13,17 @@ use Rattle.text_laws.specs.declared.TextFault.{TextFault}
 use Rattle.text_laws.specs.declared.TextFault.TheVariants as text_fault
 use Rattle.wide_monomial.specs.Packing.{limit_of}
 use Rattle.calc_session.specs.Results.{◌>>=◌}
+use Rattle.dot_laws.specs.Sums.{Factors}
+use Rattle.calc_session.specs.Commands.{takes}
 use Rattle.calc_session.specs.Header.{characteristic_of, monomial_order}
 use Rattle.calc_session.specs.Heads.{Head, head_of}
 use Rattle.calc_session.specs.Body.{Form, Skip, Define, Ask, form_of}
 use Rattle.calc_session.specs.Product.{product}
+use Rattle.calc_session.specs.Sum.{pairs_of, sum_of_products}
 use Rattle.calc_session.specs.Faults.{fault_line}
 use Rattle.calc_session.specs.Answers.{Answers, before, done, refused}
 use Rattle.calc_session.specs.declared.commands.Command.{Command}
-use Rattle.calc_session.specs.declared.commands.Command.TheVariants.{Show, Mul, Div, Rem}
+use Rattle.calc_session.specs.declared.commands.Command.TheVariants.{Show, Mul, Div, Rem, Dot}
 use Rattle.calc_session.specs.declared.fault.LineFault.{LineFault}
 use Rattle.calc_session.specs.declared.fault.LineFault.TheVariants.{ArgumentCount, UnknownName, Syntax, UnknownNameAt, DegreeBoundAt, CoefficientBoundAt, CoefficientBound, TermBound, ZeroDivisor, NotUnit, NoMemory}
 use Rattle.calc_session.specs.declared.header.HeaderFault.{HeaderFault}
@@ -81,6 +84,9 @@ text_line setting f = text setting.variables f ++ 10 ∷ []
 unfoldable pub product_in : Setting → List Term → List Term → Result (List Term) LineFault
 product_in setting f g = product setting.order setting.limit setting.modulus f g
 
+unfoldable pub sum_in : Setting → List Factors → Result (List Term) LineFault
+sum_in setting qs = sum_of_products setting.order setting.limit setting.modulus qs
+
 abbrev pub division_in : Setting → Mode → List Term → List Term → Division
 division_in setting mode f g = division mode setting.order (length setting.variables) setting.modulus f g
 
@@ -98,6 +104,12 @@ outcome_lines setting (HasRemainder q r) = Ok (text_line setting q ++ text_line 
 unfoldable pub division_lines : Setting → Mode → List Term → List Term → Result (List ℕ) LineFault
 division_lines setting mode f g = outcome_lines setting (outcome (division_in setting mode f g))
 
+-- what the sum of the products of these pairs writes
+abbrev pub sum_lines : Setting → List Factors → Result (List ℕ) LineFault
+sum_lines setting qs = do
+  h ← sum_in setting qs
+  Ok (text_line setting h)
+
 -- the polynomials that the names stand for, in order, or that some name stands for none
 abbrev pub polynomials_of : Defined → List (List ℕ) → Result (List (List Term)) LineFault
 polynomials_of defined [] = Ok []
@@ -114,6 +126,7 @@ answer_of setting Mul (f ∷ g ∷ []) = do
   Ok (text_line setting h)
 answer_of setting Div (f ∷ g ∷ []) = division_lines setting Exact f g
 answer_of setting Rem (f ∷ g ∷ []) = division_lines setting Remainder f g
+answer_of setting Dot fs = if takes Dot (length fs) then sum_lines setting (pairs_of fs) else Err ArgumentCount
 answer_of setting _ _ = Err ArgumentCount
 
 -- what a line makes of the definitions, and what it writes

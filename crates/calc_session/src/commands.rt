@@ -2,6 +2,9 @@
 ghost use Rattle.std.specs.Prelude.{◌≡◌};
 ghost use Rattle.calc_session.specs.Commands.{command_of, takes as takes_count};
 
+/// The most factors of a sum of products: those of 32 pairs.
+pub const MOST_FACTORS: usize = 64;
+
 /// What a line of the body can ask for.
 #[derive(Clone, Copy, Debug, PartialEq, Eq)]
 pub enum Command {
@@ -13,6 +16,8 @@ pub enum Command {
     Div,
     /// The texts of the quotient and of the remainder of two.
     Rem,
+    /// The text of the sum of the products of pairs, from one to 32.
+    Dot,
 }
 
 impl Command {
@@ -26,6 +31,7 @@ impl Command {
             b"mul" => Some(Command::Mul),
             b"div" => Some(Command::Div),
             b"rem" => Some(Command::Rem),
+            b"dot" => Some(Command::Dot),
             _ => None,
         }
     }
@@ -37,6 +43,7 @@ impl Command {
         match self {
             Command::Show => count == 1,
             Command::Mul | Command::Div | Command::Rem => count == 2,
+            Command::Dot => count % 2 == 0 && 2 <= count && count <= MOST_FACTORS,
         }
     }
 }

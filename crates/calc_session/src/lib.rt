@@ -20,7 +20,7 @@ mod vars;
 mod writing;
 
 pub use body::{Line, parse_line};
-pub use commands::Command;
+pub use commands::{Command, MOST_FACTORS};
 pub use demo::demo_input;
 pub use ending::Ending;
 pub use fault::LineFault;

@@ -63,6 +63,13 @@ impl<R: CoeffRing, M: Monomial> BodySession<R, M> {
         &self.names
     }
 
+    /// The ring that the session was given.
+    pub fn ring(&self) -> R
+        ensures { R.characteristic result ≡ self.now.setting.modulus }
+    {
+        self.ring
+    }
+
     /// The polynomial that the name stands for, or that the name is unknown.
     pub fn look_up(&self, name: &[u8]) -> Result<&Poly<R, M>, LineFault>
         ensures known { MatchResult

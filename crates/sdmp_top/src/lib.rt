@@ -14,6 +14,7 @@ mod outside;
 mod real;
 mod shell;
 mod status;
+mod sums;
 mod steady;
 #[cfg(test)]
 mod tests;
