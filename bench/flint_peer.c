@@ -6,9 +6,10 @@
 
     Without --heap FLINT chooses its method (fmpz_mpoly_mul and its kin);
     with it products and exact divisions are made by its heap methods, those
-    for threads where there are several workers. What FLINT leaves out is left
-    out here: faults of the reader, degree bounds, and the bounds of a
-    division. A session is taken to be right.
+    for threads where there are several workers. A sum of products is made of
+    whole products, each added to the sum of those before it. What FLINT leaves
+    out is left out here: faults of the reader, degree bounds, and the bounds of
+    a division. A session is taken to be right.
 */
 #include <stdint.h>
 #include <stdio.h>
@@ -23,6 +24,8 @@
 typedef unsigned __int128 u128;
 
 #define MOST_VARIABLES 16
+#define MOST_NAMES 128
+#define MOST_OPERANDS 64
 #define PIECE ((size_t) 1 << 18)
 
 static int heap, modular, variables;
@@ -32,14 +35,30 @@ static int variable_length[MOST_VARIABLES];
 static fmpz_mpoly_ctx_t integers;
 static nmod_mpoly_ctx_t residues;
 
-/* what a one-letter name stands for */
+/* what a name stands for */
 typedef struct
 {
+    const char * name;
     fmpz_mpoly_t z;
     nmod_mpoly_t n;
 } polynomial;
 
-static polynomial defined[128];
+static polynomial defined[MOST_NAMES];
+static int definitions;
+
+/* the polynomial of the name, a new one where there is none */
+static polynomial *
+named(const char * name)
+{
+    int i;
+    for (i = 0; i < definitions; i++)
+        if (strcmp(defined[i].name, name) == 0)
+            return &defined[i];
+    if (definitions == MOST_NAMES)
+        exit(9);
+    defined[definitions].name = name;
+    return &defined[definitions++];
+}
 
 /* ---- output */
 
@@ -333,11 +352,60 @@ heap_quotient_of_residues(nmod_mpoly_t q, const nmod_mpoly_t f, const nmod_mpoly
     return nmod_mpoly_divides_monagan_pearce(q, f, g, residues);
 }
 
+/* ---- sums of products */
+
+static void
+product_of_integers(fmpz_mpoly_t q, const fmpz_mpoly_t f, const fmpz_mpoly_t g)
+{
+    if (heap)
+        heap_product_of_integers(q, f, g);
+    else
+        fmpz_mpoly_mul(q, f, g, integers);
+}
+
+static void
+product_of_residues(nmod_mpoly_t q, const nmod_mpoly_t f, const nmod_mpoly_t g)
+{
+    if (heap)
+        heap_product_of_residues(q, f, g);
+    else
+        nmod_mpoly_mul(q, f, g, residues);
+}
+
+static void
+sum_of_integers(fmpz_mpoly_t sum, polynomial ** operands, int count)
+{
+    fmpz_mpoly_t q;
+    int i;
+    for (i = 0; i + 1 < count; i += 2)
+    {
+        fmpz_mpoly_init(q, integers);
+        product_of_integers(q, operands[i]->z, operands[i + 1]->z);
+        fmpz_mpoly_add(sum, sum, q, integers);
+        fmpz_mpoly_clear(q, integers);
+    }
+}
+
+static void
+sum_of_residues(nmod_mpoly_t sum, polynomial ** operands, int count)
+{
+    nmod_mpoly_t q;
+    int i;
+    for (i = 0; i + 1 < count; i += 2)
+    {
+        nmod_mpoly_init(q, residues);
+        product_of_residues(q, operands[i]->n, operands[i + 1]->n);
+        nmod_mpoly_add(sum, sum, q, residues);
+        nmod_mpoly_clear(q, residues);
+    }
+}
+
 /* ---- commands */
 
 static void
-answer_integers(const char * command, fmpz_mpoly_t f, fmpz_mpoly_t g)
+answer_integers(const char * command, polynomial ** operands, int count)
 {
+    fmpz_mpoly_struct * f = operands[0]->z, * g = operands[count - 1]->z;
     fmpz_mpoly_t q, r;
     fmpz_mpoly_init(q, integers);
     fmpz_mpoly_init(r, integers);
@@ -345,10 +413,12 @@ answer_integers(const char * command, fmpz_mpoly_t f, fmpz_mpoly_t g)
         put_integers(f);
     else if (strcmp(command, "mul") == 0)
     {
-        if (heap)
-            heap_product_of_integers(q, f, g);
-        else
-            fmpz_mpoly_mul(q, f, g, integers);
+        product_of_integers(q, f, g);
+        put_integers(q);
+    }
+    else if (strcmp(command, "dot") == 0)
+    {
+        sum_of_integers(q, operands, count);
         put_integers(q);
     }
     else if (strcmp(command, "div") == 0)
@@ -370,8 +440,9 @@ answer_integers(const char * command, fmpz_mpoly_t f, fmpz_mpoly_t g)
 }
 
 static void
-answer_residues(const char * command, nmod_mpoly_t f, nmod_mpoly_t g)
+answer_residues(const char * command, polynomial ** operands, int count)
 {
+    nmod_mpoly_struct * f = operands[0]->n, * g = operands[count - 1]->n;
     nmod_mpoly_t q, r;
     nmod_mpoly_init(q, residues);
     nmod_mpoly_init(r, residues);
@@ -379,10 +450,12 @@ answer_residues(const char * command, nmod_mpoly_t f, nmod_mpoly_t g)
         put_residues(f);
     else if (strcmp(command, "mul") == 0)
     {
-        if (heap)
-            heap_product_of_residues(q, f, g);
-        else
-            nmod_mpoly_mul(q, f, g, residues);
+        product_of_residues(q, f, g);
+        put_residues(q);
+    }
+    else if (strcmp(command, "dot") == 0)
+    {
+        sum_of_residues(q, operands, count);
         put_residues(q);
     }
     else if (strcmp(command, "div") == 0)
@@ -436,6 +509,28 @@ header(char * vars, char * ring)
         fmpz_mpoly_ctx_init(integers, variables, ORD_DEGLEX);
 }
 
+/* a definition, a command, or nothing */
+static void
+answer_line(char * line)
+{
+    polynomial * operands[MOST_OPERANDS];
+    char * equals = strchr(line, '='), * command, * word;
+    int count = 0;
+    if (equals)
+    {
+        define(named(strtok(line, " =")), equals + 1);
+        return;
+    }
+    if (!(command = strtok(line, " ")))
+        return;
+    while (count < MOST_OPERANDS && (word = strtok(NULL, " ")))
+        operands[count++] = named(word);
+    if (modular)
+        answer_residues(command, operands, count);
+    else
+        answer_integers(command, operands, count);
+}
+
 int
 main(int count, char ** words)
 {
@@ -456,25 +551,7 @@ main(int count, char ** words)
     ring = strsep(&rest, "\n");
     header(vars, ring);
     while ((line = strsep(&rest, "\n")))
-    {
-        char * equals = strchr(line, '=');
-        char * command, * f, * g;
-        if (equals)
-        {
-            define(&defined[line[0] & 127], equals + 1);
-            continue;
-        }
-        if (!(command = strtok(line, " ")))
-            continue;
-        f = strtok(NULL, " ");
-        g = strtok(NULL, " ");
-        if (!g)
-            g = f;
-        if (modular)
-            answer_residues(command, defined[f[0] & 127].n, defined[g[0] & 127].n);
-        else
-            answer_integers(command, defined[f[0] & 127].z, defined[g[0] & 127].z);
-    }
+        answer_line(line);
     flush();
     return 0;
 }

@@ -9,7 +9,7 @@ import threading
 import time
 from collections import namedtuple
 
-COMMANDS = (b'show ', b'mul ', b'div ', b'rem ')
+COMMANDS = (b'show ', b'mul ', b'div ', b'rem ', b'dot ')
 
 # the status of what was killed after its time
 LATE = 'late'

@@ -1,4 +1,4 @@
-"""Exact products, quotients and remainders of polynomials by the program sdmp.
+"""Exact products, sums of products, quotients and remainders of polynomials by the program sdmp.
 
     >>> import sdmp
     >>> s = sdmp.Session('x y')                 # over the integers
@@ -11,6 +11,8 @@
     {(0, 2): 1, (1, 0): 1, (0, 1): 1}
     >>> print(s.div(a, b))                      # b doesn't divide a
     None
+    >>> s.dot([(quotient, b), (remainder, 1)]) == a
+    True
 
 The program reads its whole input before it answers, so a process can't answer
 one call after another. Each call runs the program once, on a session that
@@ -36,8 +38,8 @@ STATUSES = {
     6: 'a session of more than 67,108,864 bytes',
     70: 'the program was not built',
 }
-# each command, with the numbers of its operands and of the lines that answer it
-COMMANDS = {'show': (1, 1), 'mul': (2, 1), 'div': (2, 1), 'rem': (2, 2)}
+# each command, with the numbers of operands that it takes and the number of lines that answer it
+COMMANDS = {'show': ((1,), 1), 'mul': ((2,), 1), 'div': ((2,), 1), 'rem': ((2,), 2), 'dot': (range(2, 65, 2), 1)}
 # the order of a session that chooses none
 ORDER = 'grlex'
 FAULT = re.compile(r'line (\d+): (.*?)(?: at (\d+))?')
@@ -169,8 +171,12 @@ class Session:
         """The quotient and the remainder."""
         return self.run([('rem', a, b)])[0]
 
+    def dot(self, pairs):
+        """The sum of the products of pairs, of which there are 1 to 32."""
+        return self.run([('dot', *(factor for a, b in pairs for factor in (a, b)))])[0]
+
     def run(self, commands):
-        """Answers commands by one run of the program: a list of tuples as ('show', a), ('mul', a, b), ('div', a, b) and ('rem', a, b). The answers are as those of `poly`, `mul`, `div` and `rem`. A polynomial that several commands use is written once."""
+        """Answers commands by one run of the program: a list of tuples as ('show', a), ('mul', a, b), ('div', a, b), ('rem', a, b) and ('dot', a, b, c, d). The answers are as those of `poly`, `mul`, `div`, `rem` and `dot`. A polynomial that several commands use is written once."""
         commands = [(word, *map(self._written, operands)) for word, *operands in commands]
         lines, asked = self._lines(commands)
         status, written = self._answer(lines)
@@ -201,7 +207,7 @@ class Session:
             lines.append('order %s' % self.order)
         names, asked, fresh = {}, [], self._fresh_names()
         for word, *operands in commands:
-            if word not in COMMANDS or len(operands) != COMMANDS[word][0]:
+            if word not in COMMANDS or len(operands) not in COMMANDS[word][0]:
                 raise ValueError('no command of %d operands: %s' % (len(operands), word))
             for text in operands:
                 if text not in names:

@@ -91,6 +91,18 @@ class Commands(unittest.TestCase):
         self.assertIsNone(session.div(a, 'x+y'))
         self.assertEqual([str(part) for part in session.rem('x^2+1', b)], ['x+y', 'y^2+1'])
 
+    def test_sums_of_products(self):
+        session = sdmp.Session('x y')
+        a, b = session.poly('x+y'), session.poly('x-y')
+        self.assertEqual(str(session.dot([(a, b), (b, a)])), '2*x^2-2*y^2')
+        self.assertEqual(str(session.dot([(a, b), ({(1, 0): -1, (0, 1): -1}, b)])), '0')
+        self.assertEqual(session.dot([(a, b)]), session.mul(a, b))
+        self.assertEqual(str(session.dot([('x', 'y')] * 32)), '32*x*y')
+        self.assertEqual(str(sdmp.Session('x', modulus=6).dot([('2*x', 3), ('5*x', 'x')])), '5*x^2')
+        for pairs in [], [(a, b)] * 33, [(a, b, a)], [(a,)]:
+            with self.assertRaises(ValueError):
+                session.dot(pairs)
+
     def test_an_order_is_chosen(self):
         session = sdmp.Session('x y z', order='grlex')
         self.assertEqual(str(session.poly('y^2+x*z')), 'x*z+y^2')
@@ -113,10 +125,11 @@ class Commands(unittest.TestCase):
     def test_one_run_answers_a_list(self):
         session = sdmp.Session('x')
         a = session.poly('x^2-1')
-        answers = session.run([('mul', a, a), ('div', a, 'x-1'), ('div', a, 'x'), ('rem', a, 'x'), ('show', 'x+x')])
-        self.assertEqual(str(answers), "[Polynomial('x^4-2*x^2+1'), Polynomial('x+1'), None, (Polynomial('x'), Polynomial('-1')), Polynomial('2*x')]")
-        with self.assertRaises(ValueError):
-            session.run([('mul', a)])
+        answers = session.run([('mul', a, a), ('div', a, 'x-1'), ('div', a, 'x'), ('rem', a, 'x'), ('show', 'x+x'), ('dot', a, 1, 'x', 'x')])
+        self.assertEqual(str(answers), "[Polynomial('x^4-2*x^2+1'), Polynomial('x+1'), None, (Polynomial('x'), Polynomial('-1')), Polynomial('2*x'), Polynomial('2*x^2-1')]")
+        for command in ('mul', a), ('dot', a, a, a):
+            with self.assertRaises(ValueError):
+                session.run([command])
         with self.assertRaises(ValueError):
             session.run([('add', a, a)])
 
@@ -152,7 +165,9 @@ class Faults(unittest.TestCase):
         for call, name in ((lambda: session.div('x', 0), 'division by zero'),
                            (lambda: session.rem('x', '2*x'), 'leading coefficient is no unit'),
                            (lambda: session.mul('x^2000000000', 'x^2000000001'), 'degree bound'),
-                           (lambda: session.mul(2 ** 64, 2 ** 64), 'coefficient bound')):
+                           (lambda: session.mul(2 ** 64, 2 ** 64), 'coefficient bound'),
+                           (lambda: session.dot([(2 ** 126, 1)] * 2), 'coefficient bound'),
+                           (lambda: session.dot([(1, 1), ('x^2000000000', {(2000000001,): 2 ** 126})]), 'degree bound')):
             fault = self.fault(call)
             self.assertEqual((fault.text, fault.column), (name, None))
 
@@ -252,6 +267,13 @@ class BesideSymPy(unittest.TestCase):
             pairs = [(poly(12, 6), poly(9, 4)) for _ in range(ROUNDS)]
             for answer, (a, b) in zip(session.run([('mul', a, b) for a, b in pairs]), pairs):
                 self.assertEqual(answer.terms, reduced((a * b).terms(), session.modulus))
+
+    def test_random_sums_of_products(self):
+        for session, poly in self.sessions(MODULI):
+            for count in 1, 2, self.draw.randint(3, 32):
+                pairs = [(poly(9, 5), poly(7, 4)) for _ in range(count)]
+                total = sum((a * b for a, b in pairs[1:]), pairs[0][0] * pairs[0][1])
+                self.assertEqual(session.dot(pairs).terms, reduced(total.terms(), session.modulus))
 
     def test_exact_quotients(self):
         for session, poly in self.sessions(MODULI):

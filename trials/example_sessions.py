@@ -18,6 +18,8 @@ EXAMPLES = os.path.join(HERE, '..', 'examples')
 LETTERS = 'abcd'
 ENTRIES = 'w x y z'.split()
 SIZE = len(ENTRIES)
+# two columns that rise, and the other two so that the four make an even permutation
+EVEN = (0, 1, 2, 3), (0, 2, 3, 1), (0, 3, 1, 2), (1, 2, 0, 3), (1, 3, 2, 0), (2, 3, 0, 1)
 
 
 def session(title, names, lines):
@@ -42,7 +44,7 @@ def sparse():
 def determinant():
     """Bareiss's elimination of the circulant matrix whose first row is w x y z."""
     lines = ['# Each step takes pivot times entry minus column times row, and divides by the pivot before.',
-             '# The program has no sums of its own: a difference is defined by its two products as they are answered.']
+             '# An answer has no name: a difference is defined by its two products as they are answered.']
     for i, j in itertools.product(range(SIZE), repeat=2):
         lines.append('%s = %s' % (name(0, i, j), text(0, i, j)))
     for step in range(SIZE - 1):
@@ -65,6 +67,46 @@ def entry_lines(step, i, j):
         return [*lines, '%s = %s' % (after, difference)]
     pivot = name(step - 1, step - 1, step - 1)
     return [*lines, 'n = ' + difference, 'div n ' + pivot, '%s = %s' % (after, text(step + 1, i, j))]
+
+
+def minors():
+    """Laplace's expansion of the matrix whose rows are the powers of each variable, by two rows and two."""
+    lines = ['# the rows, and the first and the third negated']
+    for row, variable, sign in ('a', 'x', 1), ('m', 'x', -1), ('b', 'y', 1), ('c', 'z', 1), ('n', 'z', -1), ('d', 't', 1):
+        for i in range(4):
+            lines.append('%s%d = %s' % (row, i, canonical(row_entry(variable, i, sign), FOUR)))
+    lines.append('# the minors of the upper rows, and those of the lower rows at the other columns, in an order that needs no signs')
+    for i, j, k, l in EVEN:
+        lines += minor_lines('p', 'amb', 'xy', i, j) + minor_lines('q', 'cnd', 'zt', k, l)
+    lines += ['# the determinant, and one of its factors', 'dot ' + ' '.join('p%d%d q%d%d' % order for order in EVEN),
+              'v = ' + canonical(vandermonde(), FOUR), 's = t-z', 'div v s',
+              '# the upper rows in place of the lower ones give 0']
+    lines += ['p%d%d = %s' % (i, j, canonical(minor('xy', i, j), FOUR)) for i, j in ((2, 0), (3, 1))]
+    lines.append('dot ' + ' '.join('p%d%d p%d%d' % order for order in EVEN))
+    return session('The determinant of the matrix with the rows 1 v v^2 v^3, for v the variables, by sums of products of minors.', FOUR, lines)
+
+
+def row_entry(variable, exponent, sign=1):
+    return {unit(FOUR.index(variable), 4, exponent): sign}
+
+
+def minor(variables, i, j):
+    """The minor of the rows of two variables at two columns."""
+    x, y = variables
+    return {**times(row_entry(x, i), row_entry(y, j), 0), **times(row_entry(x, j, -1), row_entry(y, i), 0)}
+
+
+def minor_lines(letter, rows, variables, i, j):
+    upper, negated, lower = rows
+    return ['dot %s%d %s%d %s%d %s%d' % (upper, i, lower, j, negated, j, lower, i),
+            '%s%d%d = %s' % (letter, i, j, canonical(minor(variables, i, j), FOUR))]
+
+
+def vandermonde():
+    total = {}
+    for i, j, k, l in EVEN:
+        total.update(times(minor('xy', i, j), minor('zt', k, l), 0))
+    return total
 
 
 def name(step, i, j):
@@ -94,11 +136,12 @@ def sign(order):
     return (-1) ** sum(a > b for a, b in itertools.combinations(order, 2))
 
 
-SESSIONS = {'dense': dense, 'sparse': sparse, 'determinant': determinant}
+SESSIONS = {'dense': dense, 'sparse': sparse, 'determinant': determinant, 'minors': minors}
 CLAIMS = {
     'dense': {'f': '(1+x+y+z+t)^4', 'g': '(1+x+y+z+t)^4+1'},
     'sparse': {'f': '(1+x+y+2*z^2+3*t^3+5*u^5)^2', 'g': '(1+u+t+2*z^2+3*y^3+5*x^5)^2'},
     'determinant': {'d44': '(w+x+y+z)*(w-x+y-z)*((w-y)^2+(x-z)^2)'},
+    'minors': {'v': '(y-x)*(z-x)*(t-x)*(z-y)*(t-y)*(t-z)'},
 }
 
 

@@ -9,6 +9,7 @@ becomes claims, which every system that is installed has to find true:
 
     show A      the answer is A
     mul A B     the answer is A*B
+    dot A B ..  the answer is A*B + ..
     div A B     the answer times B is A; after `none`, that B doesn't divide A
     rem A B     Q*B + R is A, and no monomial of R is a multiple of B's leading one
 
@@ -81,8 +82,10 @@ class Example:
         product = '(%s)*(%s)' % (answers[0], b)
         if words[0] == 'show':
             self.claims.append(Claim('equal', answers[0], a))
-        elif words[0] == 'mul':
-            self.claims.append(Claim('equal', answers[0], '(%s)*(%s)' % (a, b)))
+        elif words[0] in ('mul', 'dot'):
+            factors = ['(%s)' % self.defined[word] for word in words[1:]]
+            products = '+'.join('*'.join(pair) for pair in zip(factors[::2], factors[1::2]))
+            self.claims.append(Claim('equal', answers[0], products))
         elif words[0] == 'rem':
             self.claims += [Claim('equal', '%s+(%s)' % (product, answers[1]), a), Claim('rest', answers[1], b)]
         elif answers[0] == 'none':
@@ -157,7 +160,7 @@ class SymPy:
         return not self.is_zero(rest) if self.modulus else not rest.is_zero or any(c.q != 1 for c in quotient.coeffs())
 
     def rest(self, f, g):
-        return self.equal(self.divided(f, g)[1], f)
+        return f.is_zero or self.equal(self.divided(f, g)[1], f)
 
     def divided(self, f, g):
         """Quotient and remainder. Modulo a number the divisor is made monic first, so that the division of integers is one of residues."""

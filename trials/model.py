@@ -22,7 +22,8 @@ LONGEST = 67108864
 LIMITS = {1: 2147483647, 2: 2147483647, 3: 2147483647, 4: 16777215, 5: 1048575, 6: 131071, 7: 32767, 8: 8191,
           9: 2047, 10: 1023, 11: 511, 12: 255, 13: 255, 14: 127, 15: 127}
 RESERVED = b'vars ring order show mul div rem dot nf'.split()
-ARGUMENTS = {b'show': 1, b'mul': 2, b'div': 2, b'rem': 2}
+# each command, with the numbers of names that it takes
+ARGUMENTS = {b'show': (1,), b'mul': (2,), b'div': (2,), b'rem': (2,), b'dot': range(2, 65, 2)}
 RANGES = {b'--workers': (1, 64), b'--places': (2, 65536), b'--demo': (0, 2 ** 64 - 1)}
 
 WORD = re.compile(rb'[^ \t]+')
@@ -283,29 +284,36 @@ class Session:
     def command(self, words):
         if words[0] not in ARGUMENTS:
             raise Fault('unknown command')
-        if len(words) - 1 != ARGUMENTS[words[0]]:
+        if len(words) - 1 not in ARGUMENTS[words[0]]:
             raise Fault('argument count')
         if any(w not in self.defined for w in words[1:]):
             raise Fault('unknown name')
         answers = self.answer(words[0], *(self.defined[w] for w in words[1:]))
         return [b'none' if a is None else canonical(a, self.names) for a in answers]
 
-    def answer(self, command, f, g=None):
+    def answer(self, command, *polys):
         if command == b'show':
-            return [f]
-        if command == b'mul':
-            return [self.product(f, g)]
-        quotient, rest = divide(f, g, self.modulus, command == b'div', self.turns)
+            return polys
+        if command in (b'mul', b'dot'):
+            return [self.sum_of_products(list(zip(polys[::2], polys[1::2])))]
+        quotient, rest = divide(*polys, self.modulus, command == b'div', self.turns)
         if command == b'rem':
             return [quotient, rest]
         return [None if rest else quotient]
 
-    def product(self, f, g):
-        if f and g and sum(max(f, key=grlex)) + sum(max(g, key=grlex)) > LIMITS[len(self.names)]:
-            raise Fault('degree bound')
-        if not self.modulus and norm(f) * norm(g) > H:
-            raise Fault('coefficient bound')
-        return times(f, g, self.modulus)
+    def sum_of_products(self, pairs):
+        """The sum of the products of the pairs, of which a `mul` has one, or the fault of the first pair that has one."""
+        total, norms = {}, 0
+        for f, g in pairs:
+            if f and g and sum(max(f, key=grlex)) + sum(max(g, key=grlex)) > LIMITS[len(self.names)]:
+                raise Fault('degree bound')
+            norms += norm(f) * norm(g)
+            if not self.modulus and norms > H:
+                raise Fault('coefficient bound')
+        for f, g in pairs:
+            for monomial, number in times(f, g, self.modulus).items():
+                total[monomial] = total.get(monomial, 0) + number
+        return reduced(total, self.modulus)
 
 
 def answers(session, turns=10 ** 6):

@@ -37,7 +37,7 @@ WRONG_ORDERS = [b'order', b'order lex', b'order grevlex', b'order grlex grlex', 
                 b'grlex', b'orders', b'order #']
 WRONG_NAMES = [b'', b'1a', b'a b', b'a-', b'\xe9', b'n' * 33, b'vars', b'ring', b'order', b'show', b'mul', b'div', b'rem', b'dot', b'nf', b'a\r', b'#a']
 WRONG_LINES = [b'show', b'show a b', b'show q', b'mul a', b'mul a b a', b'mul a q', b'mul q', b'div', b'div q a', b'rem a', b'rem q q', b'order a', b'order grlex',
-               b'dot a b', b'nf a', b'vars x', b'ring Z', b'Show a', b'show\fa', b'showa', b'show a\r', b'a', b'+', b'mul\ta\tb\tb', b'show x']
+               b'dot', b'dot a', b'dot a b a', b'dot a b q b', b'dot q a b', b'dot' + b' a' * 65, b'dot' + b' q' * 66, b'nf a', b'vars x', b'ring Z', b'Show a', b'show\fa', b'showa', b'show a\r', b'a', b'+', b'mul\ta\tb\tb', b'show x']
 SPELLINGS = b'0123456789xyztw_+-*^^** \t=()./\r\f\0#\xff'
 
 Made = namedtuple('Made', 'kind session words')
@@ -148,15 +148,42 @@ class Maker:
         known = [line.split(b'=')[0].strip() for line in lines]
         for _ in range(self.draw.randint(1, 5)):
             command = self.draw.choice(sorted(model.ARGUMENTS))
+            if command == b'dot':
+                lines.append(self.dot(known, 8))
+                continue
             two = known[-2:] if self.draw.random() < 0.7 else self.draw.choices(known, k=2)
-            lines.append(b' '.join([command] + two[:model.ARGUMENTS[command]]))
+            lines.append(b' '.join([command] + two[:model.ARGUMENTS[command][0]]))
         return lines
+
+    def dot(self, known, most):
+        """A sum of products of known polynomials, of up to so many names; at times of more, or of an odd number of them."""
+        count = 2 * self.draw.randint(1, most // 2)
+        if self.draw.random() < 0.1:
+            count = self.draw.choice((0, 1, 3, count + 1, 63, 65, 66))
+        return b' '.join([b'dot'] + self.draw.choices(known, k=count))
+
+    def sums(self):
+        """Sums of products at the bound: one of as many pairs as times one norm is near it, and of others."""
+        names = [n for n in (b'a', b'b', b'c', b'd', b'e_1') if n not in self.names][:4]
+        pairs = self.draw.randint(1, 32)
+        size = model.H // pairs + self.draw.choice((-1, 0, 0, 1))
+        part = self.draw.choice((0, 1, size // 2))
+        variable = self.draw.choice(self.names)
+        half = self.power(variable, max(1, self.limit // 2 + self.draw.choice((-9, 0, 1))))
+        texts = [b'%d%s%d*%s' % (size - part, self.draw.choice((b'+', b'-')), part, variable),
+                 self.draw.choice((b'1', b'-1', variable)), half, self.spelled(self.poly(3, 2, 9))]
+        lines = [name + b' = ' + text for name, text in zip(names, texts)]
+        large = [self.draw.sample(names[:2], 2) for _ in range(pairs)]
+        for _ in range(self.draw.choice((0, 0, 0, 1, 2))):
+            large.insert(self.draw.randint(0, len(large)), self.draw.choices(names, k=2))
+        lines.append(b' '.join([b'dot'] + [name for pair in large for name in pair]))
+        return lines + [self.dot(names, 64) for _ in range(self.draw.randint(0, 2))]
 
     def lines(self):
         head = b'vars ' + b' '.join(self.names)
         ring = b'ring mod %d' % self.modulus if self.modulus else b'ring Z'
         order = [self.draw.choice(ORDERS)] if self.draw.random() < 0.3 else []
-        body = self.body()
+        body = self.sums() if self.kind == 'sums' else self.body()
         at = self.draw.randrange(len(body) + 1)
         if self.kind == 'headers':
             wrong = self.draw.randrange(5)
@@ -189,7 +216,7 @@ class Maker:
         return session
 
 
-KINDS = ['plain', 'plain', 'limits', 'limits', 'residues', 'wide', 'headers', 'texts', 'texts', 'names', 'bytes', 'bytes', 'cut', 'words']
+KINDS = ['plain', 'plain', 'limits', 'limits', 'residues', 'wide', 'sums', 'headers', 'texts', 'texts', 'names', 'bytes', 'bytes', 'cut', 'words']
 
 
 def words_of(draw, kind):

@@ -4,5 +4,6 @@ pub mod SummaryLemmas
 pub mod DivisionLemmas
 pub mod LineLemmas
 pub mod SettingLemmas
+pub mod SumLemmas
 pub mod FactorLemmas
 pub mod WorkLemmas

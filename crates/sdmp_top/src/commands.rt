@@ -7,6 +7,7 @@ ghost use Rattle.sdmp_top.specs.Work.{IsTallied, calculations_of, line_calculati
 
 use crate::division::{quotient, remainder};
 use crate::ends::Ends;
+use crate::sums::sum_of_products;
 use crate::workers::{Workers, product};
 use calc_session::{
     BodySession, Command, Line, LineFault, parse_line, write_line, write_none, write_pair,
@@ -68,6 +69,7 @@ fn answer_command<T: Threads + Sync, G: Gate, R: CoeffRing, M: Monomial>(
         Command::Mul => multiply(alloc, by, ends, session, polynomials, out),
         Command::Div => divide(alloc, by, ends, session, polynomials, out),
         Command::Rem => divide_with_rest(alloc, by, ends, session, polynomials, out),
+        Command::Dot => add_products(alloc, by, session, polynomials, out),
     }
 }
 
@@ -165,6 +167,28 @@ fn divide_with_rest<T: Threads + Sync, G: Gate, R: CoeffRing, M: Monomial>(
     };
     let divided = remainder(alloc, by, ends, f, g)?;
     write_pair(alloc, &divided.quotient, &divided.remainder, names, out)
+}
+
+// writes the text of the sum of the products of the polynomials two by two
+fn add_products<T: Threads + Sync, G: Gate, R: CoeffRing, M: Monomial>(
+    alloc: Global,
+    by: &Workers<'_, T, G>,
+    session: &BodySession<R, M>,
+    polynomials: &[&Poly<R, M>],
+    out: &mut Vec<u8>,
+) -> Result<(), LineFault>
+    requires empty { out.old.items ≡ [] }
+    requires moduli { All (λ f. f.now.modulus ≡ session.now.setting.modulus) polynomials.now }
+    ensures ok { OnOk result (answer_of session.now.setting Command.Dot (map (λ f. f.now.list) polynomials.now) ≡ Ok out.new.items) }
+    ensures refused { IfErr result (λ fault. fault ≢ LineFault.NoMemory → answer_of session.now.setting Command.Dot (map (λ f. f.now.list) polynomials.now) ≡ Err fault) }
+    ensures same { OnErr result (out.new.items ≡ []) }
+{
+    let names = session.names();
+    if !Command::Dot.takes(polynomials.len()) {
+        return Err(LineFault::ArgumentCount);
+    }
+    let sum = sum_of_products(alloc, by, session.ring(), polynomials)?;
+    write_line(alloc, &sum, names, out)
 }
 
 // the two polynomials, where there are two

@@ -15,6 +15,7 @@ mod real;
 mod shell;
 mod status;
 mod steady;
+mod sums;
 #[cfg(test)]
 mod tests;
 mod workers;

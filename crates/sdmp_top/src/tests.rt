@@ -75,6 +75,14 @@ fn answers_sessions(rt: HostRuntime) -> Result<(), Fail> {
         ("vars x\nring Z\na = 0\nb = x-1\nmul a b\n", "0\n"),
         ("vars x y\nring Z\na = x+y\nb = x-y\nmul a b\n", "x^2-y^2\n"),
         ("vars x\nring mod 6\na = 2*x\nb = 3*x\nmul a b\n", "0\n"),
+        (
+            "vars x y\nring Z\na = x+y\nb = x-y\ndot a b b a\n",
+            "2*x^2-2*y^2\n",
+        ),
+        (
+            "vars x y\nring Z\na = x+y\nb = x-y\nc = -x-y\ndot a b c b\n",
+            "0\n",
+        ),
         ("vars x\nring mod 7\na = x+6\nb = x+1\nmul a b\n", "x^2+6\n"),
         ("vars x y\nring Z\na = y + x+y\nshow a\n", "x+2*y\n"),
         (
@@ -162,8 +170,16 @@ fn refuses_after_lines(rt: HostRuntime) -> Result<(), Fail> {
             "line 5: coefficient bound\n",
         ),
         (
+            "vars x\nring Z\na = 85070591730234615865843651857942052864\nb = 1\ndot a b a b\n",
+            "line 5: coefficient bound\n",
+        ),
+        (
             "vars x\nring Z\na = x+1\nb = x-1\nmul a c\n",
             "line 5: unknown name\n",
+        ),
+        (
+            "vars x\nring Z\na = x\ndot a a a\n",
+            "line 4: argument count\n",
         ),
         (
             "vars x\nring Z\na = x\na = x+1\nshow a\nshow b\n",

@@ -15,6 +15,8 @@ fn reads_names(rt: HostRuntime) -> Result<(), Fail> {
 fn refuses_words(rt: HostRuntime) {
     let repeated = Names::new(rt.alloc(), b"x x");
     assert!(rt; matches!(repeated, Err(NamesFault::Repeated { index: 1 })));
+    let reserved = Names::new(rt.alloc(), b"x dot");
+    assert!(rt; matches!(reserved, Err(NamesFault::Reserved { index: 1 })));
     let none = Names::new(rt.alloc(), b"");
     assert!(rt; matches!(none, Err(NamesFault::Count)));
 }

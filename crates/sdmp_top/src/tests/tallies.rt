@@ -68,6 +68,7 @@ fn counts_what_lines_make(rt: HostRuntime) -> Result<(), Fail> {
             [1, 5, 1, 2],
         ),
         ("vars x\nring Z\na = x\nshow a\n", "", [0, 0, 0, 0]),
+        ("vars x\nring Z\na = x\ndot a a\n", "", [0, 0, 0, 0]),
     ];
     for (session, words, counts) in rows {
         let (told, ended) = counted(&rt, rt.alloc(), session.as_bytes(), words)?;
