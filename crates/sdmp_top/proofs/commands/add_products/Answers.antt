@@ -27,7 +27,7 @@ returns-clause-ok g c =
     let p = g.R.CoeffRing.characteristic c.ring.result in
     let many : takes Dot (length fs) ≡ true = ap (takes Dot) (length-map c.args.polynomials.now (λ f. f.now.list)) ∙ sym c.takes.ensures ∙ c.if-not-takes.false in
     let sum = subst (λ (l : ℕ). IsSum S.order l p (pairs_of fs) c.in_ok-sum.sum.list) (sym is.limit)
-        (subst (λ (o : Order). IsSum o g.M.Monomial.LIM p (pairs_of fs) c.in_ok-sum.sum.list) (sym is.order) c.in_ok-sum.ensures.sum) in
+    (subst (λ (o : Order). IsSum o g.M.Monomial.LIM p (pairs_of fs) c.in_ok-sum.sum.list) (sym is.order) c.in_ok-sum.ensures.sum) in
     on_ok_weaker c.write_line.result
     (λ written. dot_ok S fs p c.ring.ensures many c.write_line.new.out.items c.in_ok-sum.sum.list sum
     (line_there c.args.out.now.items c.write_line.new.out.items c.names-names.result.now S.variables c.in_ok-sum.sum.list c.requires.empty c.names-names.ensures.names written))

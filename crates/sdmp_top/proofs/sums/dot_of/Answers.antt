@@ -10,7 +10,7 @@ pub returns-in-Err-clause-refused : goal.returns-in-Err-clause-refused
 returns-in-Err-clause-refused g c = λ other.
     let e = two_items c.loop-rest.rest.now c.f-item.result c.g-item.result c.in-len2-up.len_at_least c.f-item.is c.g-item.is in
     let said = c.fault_of.ensures g.M.Monomial.LIM (g.R.CoeffRing.characteristic c.args.ring) c.loop-rest.dot.pairs (record { f = c.f-item.result.now.list; g = c.g-item.result.now.list })
-        (subst (λ (p : ℕ). IsRefusal g.M.Monomial.LIM p c.loop-rest.dot.pairs c.f-item.result.now.list c.g-item.result.now.list c.in-Err.fault) c.loop-rest.invariant.modulus c.in-Err.ensures.room) other in
+    (subst (λ (p : ℕ). IsRefusal g.M.Monomial.LIM p c.loop-rest.dot.pairs c.f-item.result.now.list c.g-item.result.now.list c.in-Err.fault) c.loop-rest.invariant.modulus c.in-Err.ensures.room) other in
     refused_here _ _ _ _ _ _ _ _ _ c.loop-rest.invariant.held (ap (map (λ f. f.now.list)) e) said
 
 pub loop-rest-preserved : goal.loop-rest-preserved
