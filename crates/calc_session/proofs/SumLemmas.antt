@@ -8,7 +8,7 @@ use Rattle.text_laws.specs.Canonical.{text}
 use Rattle.dot_laws.specs.Sums.{Factors, dot, norms, IsSumOver, HasRoomBeside}
 use Rattle.calc_session.specs.Commands.{takes, most_factors}
 use Rattle.calc_session.specs.Product.{is_degree_over}
-use Rattle.calc_session.specs.Sum.{pairs_of, is_sum_over, pair_fault, else_later, first_fault, unless, sum_of_products, HaveRoom, IsPairRefused, IsSumRefused, IsSum}
+use Rattle.calc_session.specs.Sum.{pairs_of, is_sum_over, pair_fault, else_later, first_fault, unless, sum_of_products, HaveRoom, IsPairRefused, IsSumRefused, IsSumOfProducts}
 use Rattle.calc_session.specs.Session.{Setting, answer_of, text_line, sum_in, sum_lines}
 use Rattle.calc_session.specs.declared.commands.Command.TheVariants.{Dot}
 use Rattle.calc_session.specs.declared.fault.LineFault.{LineFault}
@@ -168,7 +168,7 @@ module _ (lim p : ℕ) where
       record { before = is.before; pair = is.pair; after = is.after; pairs = is.pairs; room = is.room; refused = is.refused }
 
 -- ---- the sum
-pub sum_ok : (ord : Order) (lim p : ℕ) (qs : List Factors) (h : List Term) → IsSum ord lim p qs h → sum_of_products ord lim p qs ≡ Ok h
+pub sum_ok : (ord : Order) (lim p : ℕ) (qs : List Factors) (h : List Term) → IsSumOfProducts ord lim p qs h → sum_of_products ord lim p qs ≡ Ok h
 unfolding sum_of_products
 sum_ok ord lim p qs h is = ap (λ o. unless o (terms ord p (dot qs))) (no_fault lim p [] qs is.room) ∙ ap (λ l. Ok l) (sym is.list)
 
@@ -185,7 +185,7 @@ module _ (setting : Setting) (fs : List (List Term)) where
   dot_count e = ap answer_by e
 
   module _ (p : ℕ) (same : p ≡ setting.modulus) (many : takes Dot (length fs) ≡ true) where
-    pub dot_ok : (piece : List ℕ) (h : List Term) → IsSum setting.order setting.limit p (pairs_of fs) h → piece ≡ text setting.variables h ++ 10 ∷ []
+    pub dot_ok : (piece : List ℕ) (h : List Term) → IsSumOfProducts setting.order setting.limit p (pairs_of fs) h → piece ≡ text setting.variables h ++ 10 ∷ []
         → answer_of setting Dot fs ≡ Ok piece
     unfolding text_line sum_in
     dot_ok piece h is written =

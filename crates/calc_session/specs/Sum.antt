@@ -65,6 +65,6 @@ pub record IsSumRefused (lim p : ℕ) (qs : List Factors) (fault : LineFault) : 
   pub refused : IsPairRefused lim p before pair fault
 
 -- h is the list of the terms of a sum of products whose pairs have room
-pub record IsSum (ord : Order) (lim p : ℕ) (qs : List Factors) (h : List Term) : Type 0 where
+pub record IsSumOfProducts (ord : Order) (lim p : ℕ) (qs : List Factors) (h : List Term) : Type 0 where
   pub room : HaveRoom lim p [] qs
   pub list : h ≡ terms ord p (dot qs)

@@ -3,7 +3,7 @@ ghost use Rattle.std.specs.Prelude.{◌≡◌, ◌≢◌, ◌≤◌, ◌*◌, �
 ghost use Rattle.sdmp_laws.specs.Poly.{Term as TermOfSum};
 ghost use Rattle.dot_laws.specs.Sums.{Factors};
 ghost use Rattle.poly_dot.specs.Faults.{IsRefusal};
-ghost use Rattle.calc_session.specs.Sum.{pairs_of, HaveRoom, IsPairRefused, IsSum, IsSumRefused};
+ghost use Rattle.calc_session.specs.Sum.{pairs_of, HaveRoom, IsPairRefused, IsSumOfProducts, IsSumRefused};
 
 use crate::workers::Workers;
 use calc_session::LineFault;
@@ -25,7 +25,7 @@ pub fn sum_of_products<T: Threads + Sync, G: Gate, R: CoeffRing, M: Monomial>(
     requires moduli { All (λ f. f.now.modulus ≡ R.characteristic ring) factors.now }
     requires few { length factors.now ≤ 64 }
     ensures modulus { IfOk result (λ h. h.modulus ≡ R.characteristic ring) }
-    ensures sum { IfOk result (λ h. IsSum M.order M.LIM (R.characteristic ring) (pairs_of (map (λ f. f.now.list) factors.now)) h.list) }
+    ensures sum { IfOk result (λ h. IsSumOfProducts M.order M.LIM (R.characteristic ring) (pairs_of (map (λ f. f.now.list) factors.now)) h.list) }
     ensures refused { IfErr result (λ fault. fault ≢ LineFault.NoMemory → IsSumRefused M.LIM (R.characteristic ring) (pairs_of (map (λ f. f.now.list) factors.now)) fault) }
 {
     let dot = dot_of(alloc, ring, factors)?;

@@ -4,7 +4,7 @@ use Rattle.std.proofs.lemmas.List.{length-map}
 use Rattle.sdmp_laws.specs.Order.{Order}
 use Rattle.poly_text.proofs.Results.{passed_up}
 use Rattle.calc_session.specs.Commands.{takes}
-use Rattle.calc_session.specs.Sum.{pairs_of, IsSum, IsSumRefused}
+use Rattle.calc_session.specs.Sum.{pairs_of, IsSumOfProducts, IsSumRefused}
 use Rattle.calc_session.specs.declared.commands.Command.TheVariants.{Dot}
 use Rattle.calc_session.proofs.SumLemmas.{dot_count, dot_ok, dot_err}
 use Rattle.sdmp_top.proofs.SettingLemmas.{line_there}
@@ -26,8 +26,8 @@ returns-clause-ok g c =
     let fs = map (λ f. f.now.list) c.args.polynomials.now in
     let p = g.R.CoeffRing.characteristic c.ring.result in
     let many : takes Dot (length fs) ≡ true = ap (takes Dot) (length-map c.args.polynomials.now (λ f. f.now.list)) ∙ sym c.takes.ensures ∙ c.if-not-takes.false in
-    let sum = subst (λ (l : ℕ). IsSum S.order l p (pairs_of fs) c.in_ok-sum.sum.list) (sym is.limit)
-    (subst (λ (o : Order). IsSum o g.M.Monomial.LIM p (pairs_of fs) c.in_ok-sum.sum.list) (sym is.order) c.in_ok-sum.ensures.sum) in
+    let sum = subst (λ (l : ℕ). IsSumOfProducts S.order l p (pairs_of fs) c.in_ok-sum.sum.list) (sym is.limit)
+    (subst (λ (o : Order). IsSumOfProducts o g.M.Monomial.LIM p (pairs_of fs) c.in_ok-sum.sum.list) (sym is.order) c.in_ok-sum.ensures.sum) in
     on_ok_weaker c.write_line.result
     (λ written. dot_ok S fs p c.ring.ensures many c.write_line.new.out.items c.in_ok-sum.sum.list sum
     (line_there c.args.out.now.items c.write_line.new.out.items c.names-names.result.now S.variables c.in_ok-sum.sum.list c.requires.empty c.names-names.ensures.names written))
