@@ -5,7 +5,7 @@ use Rattle.sdmp_laws.specs.Poly.{Term, Over, times, terms}
 use Rattle.sdmp_laws.proofs.LongLemmas.{Over-append, Over-times}
 use Rattle.dot_laws.specs.Sums.{Factors, dot}
 use Rattle.calc_session.specs.Commands.{takes, most_factors}
-use Rattle.calc_session.specs.Sum.{pairs_of, first_fault, IsSum}
+use Rattle.calc_session.specs.Sum.{pairs_of, first_fault, IsSumOfProducts}
 use Rattle.calc_session.specs.Session.{Setting}
 use Rattle.calc_session.specs.declared.commands.Command.TheVariants.{Dot}
 use Rattle.calc_session.specs.declared.fault.LineFault.{LineFault}
@@ -76,7 +76,7 @@ pairs_over n (f ∷ g ∷ fs) o = Over-append n (times f g) (dot (pairs_of fs)) 
 
 module _ (setting : Setting) where
   pub sum_of_pairs : (fs : List (List Term)) (qs : List Factors) (h : List Term) → AreOver (length setting.variables) fs → ArePairs fs qs → HasSum setting qs h
-      → IsSum setting.order setting.limit setting.modulus (pairs_of fs) h
+      → IsSumOfProducts setting.order setting.limit setting.modulus (pairs_of fs) h
   sum_of_pairs fs qs h o pairs is =
       let same : HasSum setting (pairs_of fs) h = subst (λ (l : List Factors). HasSum setting l h) (pairs_are fs qs pairs) is in
       record { room = same.room; list = sum_is setting h (dot (pairs_of fs)) (pairs_over (length setting.variables) fs o) same.sum }
