@@ -7,3 +7,4 @@ pub mod HeadCounts
 pub mod ShareLemmas
 pub mod ProductLists
 pub mod NewHeads
+pub mod SourceLemmas

@@ -1,5 +1,5 @@
 -- The lists of the products of pairs: together they are the sum of the products.
-use Rattle.std.proofs.Common.{◌≡◌, ℕ, zero, suc, ◌+◌, ◌*◌, ◌<◌, ◌≤◌, List, [], ◌∷◌, ◌++◌, length, map, get_or, All, append_assoc, append-nil, refl, sym, ap, ◌∙◌, subst, arith}
+use Rattle.std.proofs.Common.{◌≡◌, ℕ, zero, suc, ◌*◌, ◌≤◌, List, [], ◌∷◌, ◌++◌, length, map, All, append_assoc, append-nil, refl, sym, ap, ◌∙◌, subst, arith}
 use Rattle.std.proofs.lemmas.List.Elements.{All-head, All-tail}
 use Rattle.sdmp_laws.specs.Order.{Order}
 use Rattle.sdmp_laws.specs.Poly.{Term, Same, norm, Over, times, part, terms, sum_over}
@@ -13,7 +13,7 @@ use Rattle.dot_laws.specs.Sums.{Factors, dot, norms}
 use Rattle.poly_dot.specs.Sums.{product_of}
 use Rattle.poly_dot.specs.Held.{AreVectors}
 use Rattle.poly_dot.specs.Heads.{rest_at, all_of}
-use Rattle.poly_dot.proofs.PairLemmas.{norms_nil, norms_cons}
+use Rattle.poly_dot.proofs.PairLemmas.{norms_cons}
 
 -- the only worker has all rows
 pub one_worker : (f g : List Term) → part f g 1 0 ≡ times f g

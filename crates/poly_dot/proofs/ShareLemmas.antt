@@ -1,15 +1,14 @@
 -- The pairs of a worker: one pair more, and what they keep of all pairs.
-use Rattle.std.proofs.Common.{◌≡◌, ◌≢◌, ℕ, suc, ◌+◌, ◌*◌, ◌%◌, ◌<◌, ◌≤◌, Bool, true, false, cond, eqb, eq-eqb, ne_eqb, List, [], ◌∷◌, ◌++◌, length, map, take, get_or, All, append-nil, refl, sym, ap, ◌∙◌, subst, arith}
+use Rattle.std.proofs.Common.{◌≡◌, ◌≢◌, ℕ, suc, ◌+◌, ◌%◌, ◌<◌, ◌≤◌, Bool, true, false, cond, eqb, eq-eqb, ne_eqb, List, [], ◌∷◌, ◌++◌, length, map, take, get_or, All, append-nil, refl, ap, ◌∙◌, subst, arith}
 use Rattle.std.proofs.lemmas.List.{length-map, length-take-le, map_more}
-use Rattle.std.proofs.lemmas.List.Elements.{All-nil, All-cons, All-head, All-tail, All-get_or}
+use Rattle.std.proofs.lemmas.List.Elements.{All-get_or}
 use Rattle.std.proofs.lemmas.List.Sums.{get_or-le-sum_by}
 use Rattle.std.proofs.Math.ListN.{get_or-map}
-use Rattle.sdmp_laws.specs.Poly.{norm}
 use Rattle.sdmp_laws.specs.Limits.{greatest_norm, HasRoom}
 use Rattle.dot_laws.specs.Sums.{Factors, norms}
 use Rattle.poly_dot.specs.Sums.{share}
 use Rattle.poly_dot.specs.Held.{DegreesFit}
-use Rattle.poly_dot.proofs.PairLemmas.{norm_of, norms_nil, norms_cons}
+use Rattle.poly_dot.proofs.PairLemmas.{norm_of, norms_cons}
 
 share_push : (W w i : ℕ) (qs : List Factors) (q : Factors) → share W w i (qs ++ q ∷ []) ≡ share W w i qs ++ cond (eqb ((i + length qs) % W) w) (q ∷ []) []
 unfolding share
@@ -23,9 +22,9 @@ share_push W w i (r ∷ qs) q = pick (eqb (i % W) w) (share_push W w (suc i) qs 
     pick true ih = ap (λ (l : List Factors). r ∷ l) (ih ∙ ap (λ (l : List Factors). share W w (suc i) qs ++ l) same)
     pick false ih = ih ∙ ap (λ (l : List Factors). share W w (suc i) qs ++ l) same
 
-pub share_nil : (W w : ℕ) (qs : List Factors) → qs ≡ [] → share W w 0 qs ≡ []
+pub share_nil : (W w : ℕ) → share W w 0 [] ≡ []
 unfolding share
-share_nil W w qs e = ap (share W w 0) e
+share_nil W w = refl
 
 -- ---- the pairs are looked at in their order
 module _ {X : Type 0} (f : X → Factors) (W w k : ℕ) (xs : List X) (d : X) (h : k < length xs) where
@@ -41,16 +40,7 @@ module _ {X : Type 0} (f : X → Factors) (W w k : ℕ) (xs : List X) (d : X) (h
   pub share_skip : (k % W ≢ w) → share W w 0 (map f (take (k + 1) xs)) ≡ share W w 0 (map f (take k xs))
   share_skip e = share_step ∙ ap (λ (b : Bool). share W w 0 (map f (take k xs)) ++ cond b (f (get_or xs k d) ∷ []) []) (ne_eqb (k % W) w e) ∙ append-nil (share W w 0 (map f (take k xs)))
 
--- ---- what holds of all pairs
-pub share_all : (P : Factors → Type 0) (W w i : ℕ) (qs : List Factors) → All P qs → All P (share W w i qs)
-unfolding share
-share_all P W w i [] h = All-nil P
-share_all P W w i (q ∷ qs) h = pick (eqb (i % W) w) (share_all P W w (suc i) qs (All-tail P q qs h))
-  where
-    pick : (b : Bool) → All P (share W w (suc i) qs) → All P (cond b (q ∷ share W w (suc i) qs) (share W w (suc i) qs))
-    pick true ih = All-cons P q (share W w (suc i) qs) (All-head P q qs h) ih
-    pick false ih = ih
-
+-- ---- the products of the norms
 pub share_norms : (W w i : ℕ) (qs : List Factors) → norms (share W w i qs) ≤ norms qs
 unfolding share
 share_norms W w i [] = omega arith
