@@ -4,3 +4,5 @@ pub mod HeadPlaces
 pub mod HeadSteps
 pub mod HeadSums
 pub mod HeadCounts
+pub mod PartSums
+pub mod Shares

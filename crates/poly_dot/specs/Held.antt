@@ -1,5 +1,6 @@
 -- What a sum of products keeps of its pairs.
 use Rattle.std.specs.Prelude.{◌≡◌, ℕ, ◌≤◌, List, length, All}
+use Rattle.sdmp_laws.specs.Poly.{Over}
 use Rattle.sdmp_laws.specs.Limits.{greatest_norm, IsDegreeOver}
 use Rattle.dot_laws.specs.Sums.{Factors, norms}
 use Rattle.poly_dot.specs.declared.pairs.Pair.{Pair}
@@ -11,6 +12,10 @@ factors_of q = record { f = q.f.now.list; g = q.g.now.list }
 -- both have the modulus p
 abbrev pub IsOver : {R M E : Type 0} → ℕ → Pair R M E → Type 0
 IsOver p q = (q.f.now.modulus ≡ p) × (q.g.now.modulus ≡ p)
+
+-- the monomials of both are vectors of n exponents
+abbrev pub AreVectors : ℕ → Factors → Type 0
+AreVectors n q = Over n q.f × Over n q.g
 
 -- the degrees of the product are within the limit
 abbrev pub DegreesFit : ℕ → Factors → Type 0

@@ -1,0 +1,112 @@
+-- The parts of all workers make up the sum of all pairs.
+use Rattle.std.proofs.Common.{◌≡◌, ◌≢◌, ℕ, zero, suc, ◌+◌, ◌*◌, ◌%◌, ◌<◌, ◌≤◌, Bool, true, false, cond, eqb, eq-eqb, ne_eqb, mod-lt, List, [], ◌∷◌, ◌++◌, length, map, get_or, All, ℤ, pos, ◌+ℤ◌, refl, sym, ap, ◌∙◌, subst, arith}
+use Rattle.std.proofs.lemmas.Int.{ints}
+use Rattle.std.proofs.lemmas.List.{get_or_default}
+use Rattle.std.proofs.lemmas.List.Elements.{All-head, All-tail}
+use Rattle.sdmp_laws.specs.Order.{Order}
+use Rattle.sdmp_laws.specs.Poly.{Term, total, norm, Same, Over, times, terms, sum_over}
+use Rattle.sdmp_laws.specs.Limits.{greatest_norm}
+use Rattle.sdmp_laws.specs.Canonical.{IsCanonical}
+use Rattle.sdmp_laws.specs.Ring.{red}
+use Rattle.sdmp_laws.proofs.PolyLemmas.{total_append, from_total, Same-refl, Same-trans, Same-append}
+use Rattle.sdmp_laws.proofs.Parts.{norm_append, norm_nil, norm_times}
+use Rattle.sdmp_laws.proofs.NormLemmas.{terms_norm}
+use Rattle.sdmp_laws.proofs.TermsLemmas.{terms_same, terms_equal, total_nil}
+use Rattle.sdmp_laws.proofs.LongLemmas.{Over-append, Over-times}
+use Rattle.dot_laws.specs.Sums.{Factors, dot, norms}
+use Rattle.poly_dot.specs.Sums.{Pairs, share}
+use Rattle.poly_dot.specs.Held.{AreVectors}
+use Rattle.poly_dot.specs.Heads.{rest_at, all_of}
+use Rattle.poly_dot.specs.Parts.{part_of}
+use Rattle.poly_dot.proofs.PairLemmas.{norms_nil, norms_cons}
+use Rattle.poly_dot.proofs.SumsOver.{sum_over_same, none_over, size_changed, total_changed, vectors_over, norm_adds}
+
+-- the products of worker w, where the first pair stands at place i
+abbrev of_worker : ℕ → ℕ → List Factors → ℕ → List Term
+of_worker W i qs w = dot (share W w i qs)
+
+mine : (W i : ℕ) (q : Factors) (qs : List Factors) (w : ℕ) → i % W ≡ w → of_worker W i (q ∷ qs) w ≡ times q.f q.g ++ of_worker W (suc i) qs w
+unfolding share dot
+mine W i q qs w e = ap (λ (b : Bool). dot (cond b (q ∷ share W w (suc i) qs) (share W w (suc i) qs))) (eq-eqb (i % W) w e)
+
+others : (W i : ℕ) (q : Factors) (qs : List Factors) (w : ℕ) → (i % W ≢ w) → of_worker W i (q ∷ qs) w ≡ of_worker W (suc i) qs w
+unfolding share
+others W i q qs w n = ap (λ (b : Bool). dot (cond b (q ∷ share W w (suc i) qs) (share W w (suc i) qs))) (ne_eqb (i % W) w n)
+
+nothing : (W i w : ℕ) → of_worker W i [] w ≡ []
+unfolding share dot
+nothing W i w = refl
+
+-- ---- together they are all products
+all_totals : (W i : ℕ) (qs : List Factors) (m : List ℕ) → 0 < W → total (sum_over W (of_worker W i qs)) m ≡ total (dot qs) m
+unfolding dot
+all_totals W i [] m h = ap (λ (L : List Term). total L m) (none_over W (of_worker W i []) (λ k l. nothing W i k))
+all_totals W i (q ∷ qs) m h =
+    let r : i % W < W = mod-lt i h in
+    let one : total (of_worker W i (q ∷ qs) (i % W)) m ≡ total (times q.f q.g) m +ℤ total (of_worker W (suc i) qs (i % W)) m = ap (λ (L : List Term). total L m) (mine W i q qs (i % W) refl) ∙ total_append (times q.f q.g) (of_worker W (suc i) qs (i % W)) m in
+    total_changed W (i % W) (of_worker W i (q ∷ qs)) (of_worker W (suc i) qs) m (total (times q.f q.g) m) r (λ j l n. others W i q qs j (λ e. n (sym e))) one
+    ∙ ap (λ (z : ℤ). total (times q.f q.g) m +ℤ z) (all_totals W (suc i) qs m h)
+    ∙ sym (total_append (times q.f q.g) (dot qs) m)
+
+all_norms : (W i : ℕ) (qs : List Factors) → 0 < W → norm (sum_over W (of_worker W i qs)) ≡ norms qs
+all_norms W i [] h = ap norm (none_over W (of_worker W i []) (λ k l. nothing W i k)) ∙ norm_nil ∙ sym norms_nil
+all_norms W i (q ∷ qs) h =
+    let r : i % W < W = mod-lt i h in
+    let one : norm (of_worker W i (q ∷ qs) (i % W)) ≡ norm q.f * norm q.g + norm (of_worker W (suc i) qs (i % W)) = omega (arith, ap norm (mine W i q qs (i % W) refl), norm_append (times q.f q.g) (of_worker W (suc i) qs (i % W)), norm_times q.f q.g) in
+    let e = size_changed norm norm_adds W (i % W) (of_worker W i (q ∷ qs)) (of_worker W (suc i) qs) (norm q.f * norm q.g) r (λ j l n. others W i q qs j (λ d. n (sym d))) one in
+    omega (arith, e, all_norms W (suc i) qs h, norms_cons q qs)
+
+-- ---- the terms of each
+same_terms : (ord : Order) (p n : ℕ) (F : ℕ → List Term) → Same p (sum_over n (λ k. terms ord p (F k))) (sum_over n F)
+unfolding sum_over
+same_terms ord p zero F = Same-refl p []
+same_terms ord p (suc n) F = Same-append p (sum_over n (λ k. terms ord p (F k))) (sum_over n F) (terms ord p (F n)) (F n) (same_terms ord p n F) (terms_same ord p (F n))
+
+less_norm : (ord : Order) (p n : ℕ) (F : ℕ → List Term) → p ≡ 0 → norm (sum_over n (λ k. terms ord p (F k))) ≤ norm (sum_over n F)
+unfolding sum_over
+less_norm ord p zero F z = omega arith
+less_norm ord p (suc n) F z =
+    let one : norm (terms ord p (F n)) ≤ norm (F n) = omega (arith, ap (λ (q : ℕ). norm (terms ord q (F n))) z, terms_norm ord (F n)) in
+    omega (arith, one, less_norm ord p n F z, norm_append (sum_over n (λ k. terms ord p (F k))) (terms ord p (F n)), norm_append (sum_over n F) (F n))
+
+vectors_of_dot : (n : ℕ) (qs : List Factors) → All (AreVectors n) qs → Over n (dot qs)
+unfolding dot Over
+vectors_of_dot n [] h = tt
+vectors_of_dot n (q ∷ qs) h =
+    let v = All-head (AreVectors n) q qs h in
+    Over-append n (times q.f q.g) (dot qs) (Over-times n q.f q.g v.0 v.1) (vectors_of_dot n qs (All-tail (AreVectors n) q qs h))
+
+-- the lists are those of the parts of W workers, in their order
+pub record AreParts (ord : Order) (n lim : ℕ) (d : Pairs) (W : ℕ) (rests : List (List Term)) : Type 0 where
+  pub count : length rests ≡ W
+  pub each : (w : ℕ) → w < W → rest_at rests w ≡ part_of ord d W w
+  pub canonical : (w : ℕ) → w < W → IsCanonical ord d.modulus n lim (part_of ord d W w)
+
+-- ---- what the lists of all workers are
+module _ (ord : Order) (n lim : ℕ) (d : Pairs) (W : ℕ) (rests : List (List Term)) (a : AreParts ord n lim d W rests) (h : 0 < W) where
+  lists_are : all_of rests ≡ sum_over W (part_of ord d W)
+  lists_are = ap (λ (k : ℕ). sum_over k (rest_at rests)) a.count ∙ sum_over_same W (rest_at rests) (part_of ord d W) a.each
+
+  lists_same : Same d.modulus (all_of rests) (dot d.pairs)
+  lists_same =
+      subst (λ L. Same d.modulus L (dot d.pairs)) (sym lists_are)
+      (Same-trans d.modulus (sum_over W (part_of ord d W)) (sum_over W (of_worker W 0 d.pairs)) (dot d.pairs)
+      (same_terms ord d.modulus W (of_worker W 0 d.pairs))
+      (from_total d.modulus (sum_over W (of_worker W 0 d.pairs)) (dot d.pairs) (λ m. ap (red d.modulus) (all_totals W 0 d.pairs m h))))
+
+  lists_vectors : Over n (all_of rests)
+  lists_vectors = subst (Over n) (sym lists_are) (vectors_over ord d.modulus n W (part_of ord d W) (λ k l. (a.canonical k l).poly.vectors))
+
+  -- the terms of all lists are those of the sum
+  pub parts_terms : All (AreVectors n) d.pairs → terms ord d.modulus (all_of rests) ≡ terms ord d.modulus (dot d.pairs)
+  parts_terms v = terms_equal ord d.modulus n (all_of rests) (dot d.pairs) lists_vectors (vectors_of_dot n d.pairs v) lists_same
+
+  -- their norms have room
+  pub parts_fit : (d.modulus ≡ 0 → norms d.pairs ≤ greatest_norm) → d.modulus ≡ 0 → norm (all_of rests) ≤ greatest_norm
+  parts_fit f z = omega (arith, ap norm lists_are, less_norm ord d.modulus W (of_worker W 0 d.pairs) z, all_norms W 0 d.pairs h, f z)
+
+  pub parts_canonical : All (IsCanonical ord d.modulus n lim) rests
+  parts_canonical = λ k none l. subst (IsCanonical ord d.modulus n lim) (sym (get_or_default rests k none [] l ∙ a.each k (below k l))) (a.canonical k (below k l))
+    where
+      below : (k : ℕ) → k < length rests → k < W
+      below k l = omega (arith, l, a.count)
