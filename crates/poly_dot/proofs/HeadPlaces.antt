@@ -1,23 +1,21 @@
 -- Where heads are: the greatest are taken out of the heap, and what an empty heap says.
-use Rattle.std.proofs.Common.{◌≡◌, ℕ, ◌<◌, ◌≤◌, ◌⊎◌, inl, inr, Bool, true, false, cond, List, [], ◌∷◌, length, map, Option, Some, None, ℤ, pos, get_or, refl, sym, ap, ◌∙◌, subst, arith}
+use Rattle.std.proofs.Common.{◌≡◌, ℕ, ◌<◌, ◌≤◌, ◌⊎◌, inl, inr, Bool, true, false, cond, List, [], ◌∷◌, length, map, Some, None, ℤ, pos, get_or, refl, sym, ap, ◌∙◌, subst, arith}
 use Rattle.std.specs.declared.cmp.Ordering.{Ordering}
 use Rattle.std.specs.Ordering.{is_eq, is_gt}
 use Rattle.std.proofs.lemmas.Bool.{cases_lt, true≢false}
 use Rattle.std.proofs.lemmas.List.{length-map}
 use Rattle.std.proofs.Math.ListN.{get_or-map, get_or-eq_default}
 use Rattle.sdmp_laws.specs.Order.{Order, Below, compare, IsUnder}
-use Rattle.sdmp_laws.specs.Poly.{Term, norm, Over, AllBelow, Decreasing, IsPoly}
-use Rattle.sdmp_laws.specs.Division.{AtOrAbove}
+use Rattle.sdmp_laws.specs.Poly.{Term, norm}
 use Rattle.sdmp_laws.specs.Canonical.{IsCanonical}
 use Rattle.sdmp_laws.proofs.OrderLemmas.{Three, is_less, is_equal, is_greater, below_total}
 use Rattle.sdmp_laws.proofs.CompareLemmas.{compare_less, compare_greater, compare_same}
-use Rattle.sdmp_laws.proofs.TermsLemmas.{nothing_below, below_cons, head_facts}
 use Rattle.chained_heap.specs.declared.node.Place.{Place}
 use Rattle.chained_heap.specs.declared.node.Place.TheVariants.{Out, In, Taken}
-use Rattle.chained_heap.specs.Shape.{place_at, is_at, is_taken, taken_at, IsTop, IsEmpty}
+use Rattle.chained_heap.specs.Shape.{place_at, is_taken, taken_at, IsTop, IsEmpty}
 use Rattle.row_merge.proofs.Places.{AreOrdered}
-use Rattle.poly_dot.specs.Heads.{rest_at, taken_mono, piece, left_at, left, IsHead, AreHeads}
-use Rattle.poly_dot.proofs.SumsOver.{sum_over_same, none_over, below_over, vectors_over}
+use Rattle.poly_dot.specs.Heads.{rest_at, piece, left_at, left, IsHead, AreHeads}
+use Rattle.poly_dot.proofs.SumsOver.{sum_over_same, none_over}
 
 abbrev pub coef_at : List ℤ → ℕ → ℤ
 coef_at coefs k = get_or coefs k (pos 0)

@@ -1,5 +1,5 @@
 -- A source whose head is out gives its next term: what is left, and where the heads are.
-use Rattle.std.proofs.Common.{◌≡◌, ◌≢◌, ℕ, ◌+◌, ◌<◌, ◌≤◌, ◌⊎◌, inl, inr, true, false, List, [], ◌∷◌, length, map, set, Option, Some, None, ℤ, pos, ◌+ℤ◌, unsigned_abs, get_or, get_or-set_same, get_or-set_other, refl, sym, ap, ◌∙◌, subst, arith}
+use Rattle.std.proofs.Common.{◌≡◌, ◌≢◌, ℕ, ◌+◌, ◌<◌, ◌≤◌, ◌⊎◌, inl, inr, false, List, [], ◌∷◌, length, set, Option, Some, None, ℤ, pos, ◌+ℤ◌, unsigned_abs, get_or, get_or-set_same, get_or-set_other, refl, sym, ap, ◌∙◌, subst, arith}
 use Rattle.std.proofs.lemmas.Bool.{cases_eq, cases_lt, true≢false}
 use Rattle.std.proofs.lemmas.List.{length-set}
 use Rattle.sdmp_laws.specs.Order.{Order, Below, IsUnder}
@@ -13,7 +13,7 @@ use Rattle.sdmp_laws.proofs.TermsLemmas.{head_facts, tail_poly, total_cons, noth
 use Rattle.chained_heap.specs.declared.node.Place.{Place}
 use Rattle.chained_heap.specs.declared.node.Place.TheVariants.{Out, In, Taken}
 use Rattle.chained_heap.specs.Shape.{place_at, is_taken}
-use Rattle.poly_dot.specs.Heads.{rest_at, all_of, taken_mono, piece, left_at, left, IsHead, AreHeads, HasEnded, HasGiven, Gives}
+use Rattle.poly_dot.specs.Heads.{rest_at, all_of, taken_mono, piece, left_at, left, IsHead, AreHeads, Gives}
 use Rattle.poly_dot.proofs.SumsOver.{sum_over_same, size_changed, total_changed, below_over, vectors_over, degrees_over, norm_adds, length_adds}
 use Rattle.poly_dot.proofs.HeadPlaces.{coef_at}
 

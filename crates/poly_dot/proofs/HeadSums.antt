@@ -4,7 +4,7 @@ use Rattle.std.proofs.Math.Path.{transport}
 use Rattle.std.proofs.lemmas.Int.{ints}
 use Rattle.sdmp_laws.specs.Order.{Order, alike}
 use Rattle.sdmp_laws.specs.Ring.{red, IsReduced}
-use Rattle.sdmp_laws.specs.Poly.{Term, total, coef, Same, norm, Over, AllBelow, terms}
+use Rattle.sdmp_laws.specs.Poly.{Term, total, coef, norm, Over, AllBelow, terms}
 use Rattle.sdmp_laws.specs.Limits.{greatest_norm}
 use Rattle.sdmp_laws.proofs.Ints.{red_add, red_red, zero_add}
 use Rattle.sdmp_laws.proofs.Parts.{abs_add, norm_cons}
@@ -13,7 +13,7 @@ use Rattle.chained_heap.specs.declared.node.Place.{Place}
 use Rattle.chained_heap.specs.declared.node.Place.TheVariants.{Taken}
 use Rattle.chained_heap.specs.Shape.{place_at}
 use Rattle.row_merge.proofs.Unread.{terms_next, terms_skip}
-use Rattle.poly_dot.specs.Heads.{rest_at, piece, left_at, left, AreHeads, IsNextSum}
+use Rattle.poly_dot.specs.Heads.{rest_at, piece, left_at, left, IsNextSum}
 use Rattle.poly_dot.proofs.SumsOver.{size_within, norm_adds}
 use Rattle.poly_dot.proofs.HeadSteps.{Moves, head_term, moved_total, moved_norm}
 

@@ -6,3 +6,7 @@ pub mod HeadSums
 pub mod HeadCounts
 pub mod PartSums
 pub mod Shares
+pub mod ShareLemmas
+pub mod ProductLists
+pub mod NewHeads
+pub mod SourceLemmas

@@ -2,7 +2,6 @@
 use Rattle.std.proofs.Common.{◌≡◌, ◌≢◌, ℕ, zero, suc, ◌+◌, ◌*◌, ◌%◌, ◌<◌, ◌≤◌, Bool, true, false, cond, eqb, eq-eqb, ne_eqb, mod-lt, List, [], ◌∷◌, ◌++◌, length, map, get_or, All, ℤ, pos, ◌+ℤ◌, refl, sym, ap, ◌∙◌, subst, arith}
 use Rattle.std.proofs.lemmas.Int.{ints}
 use Rattle.std.proofs.lemmas.List.{get_or_default}
-use Rattle.std.proofs.lemmas.List.Elements.{All-head, All-tail}
 use Rattle.sdmp_laws.specs.Order.{Order}
 use Rattle.sdmp_laws.specs.Poly.{Term, total, norm, Same, Over, times, terms, sum_over}
 use Rattle.sdmp_laws.specs.Limits.{greatest_norm}
@@ -12,13 +11,13 @@ use Rattle.sdmp_laws.proofs.PolyLemmas.{total_append, from_total, Same-refl, Sam
 use Rattle.sdmp_laws.proofs.Parts.{norm_append, norm_nil, norm_times}
 use Rattle.sdmp_laws.proofs.NormLemmas.{terms_norm}
 use Rattle.sdmp_laws.proofs.TermsLemmas.{terms_same, terms_equal, total_nil}
-use Rattle.sdmp_laws.proofs.LongLemmas.{Over-append, Over-times}
 use Rattle.dot_laws.specs.Sums.{Factors, dot, norms}
 use Rattle.poly_dot.specs.Sums.{Pairs, share}
 use Rattle.poly_dot.specs.Held.{AreVectors}
 use Rattle.poly_dot.specs.Heads.{rest_at, all_of}
 use Rattle.poly_dot.specs.Parts.{part_of}
 use Rattle.poly_dot.proofs.PairLemmas.{norms_nil, norms_cons}
+use Rattle.poly_dot.proofs.ProductLists.{dot_vectors}
 use Rattle.poly_dot.proofs.SumsOver.{sum_over_same, none_over, size_changed, total_changed, vectors_over, norm_adds}
 
 -- the products of worker w, where the first pair stands at place i
@@ -69,13 +68,6 @@ less_norm ord p (suc n) F z =
     let one : norm (terms ord p (F n)) ≤ norm (F n) = omega (arith, ap (λ (q : ℕ). norm (terms ord q (F n))) z, terms_norm ord (F n)) in
     omega (arith, one, less_norm ord p n F z, norm_append (sum_over n (λ k. terms ord p (F k))) (terms ord p (F n)), norm_append (sum_over n F) (F n))
 
-vectors_of_dot : (n : ℕ) (qs : List Factors) → All (AreVectors n) qs → Over n (dot qs)
-unfolding dot Over
-vectors_of_dot n [] h = tt
-vectors_of_dot n (q ∷ qs) h =
-    let v = All-head (AreVectors n) q qs h in
-    Over-append n (times q.f q.g) (dot qs) (Over-times n q.f q.g v.0 v.1) (vectors_of_dot n qs (All-tail (AreVectors n) q qs h))
-
 -- the lists are those of the parts of W workers, in their order
 pub record AreParts (ord : Order) (n lim : ℕ) (d : Pairs) (W : ℕ) (rests : List (List Term)) : Type 0 where
   pub count : length rests ≡ W
@@ -99,7 +91,7 @@ module _ (ord : Order) (n lim : ℕ) (d : Pairs) (W : ℕ) (rests : List (List T
 
   -- the terms of all lists are those of the sum
   pub parts_terms : All (AreVectors n) d.pairs → terms ord d.modulus (all_of rests) ≡ terms ord d.modulus (dot d.pairs)
-  parts_terms v = terms_equal ord d.modulus n (all_of rests) (dot d.pairs) lists_vectors (vectors_of_dot n d.pairs v) lists_same
+  parts_terms v = terms_equal ord d.modulus n (all_of rests) (dot d.pairs) lists_vectors (dot_vectors ord d.modulus n d.pairs v) lists_same
 
   -- their norms have room
   pub parts_fit : (d.modulus ≡ 0 → norms d.pairs ≤ greatest_norm) → d.modulus ≡ 0 → norm (all_of rests) ≤ greatest_norm

@@ -1,5 +1,5 @@
 -- Sums over the numbers below n: of equal summands, and where one summand changes.
-use Rattle.std.proofs.Common.{◌≡◌, ◌≢◌, ℕ, zero, suc, ◌+◌, ◌<◌, ◌≤◌, ◌⊎◌, inl, inr, List, [], ◌∷◌, ◌++◌, length, ℤ, ◌+ℤ◌, refl, sym, ap, ap₂, ◌∙◌, subst, arith}
+use Rattle.std.proofs.Common.{◌≡◌, ◌≢◌, ℕ, zero, suc, ◌+◌, ◌<◌, ◌≤◌, ◌⊎◌, inl, inr, List, [], ◌++◌, length, ℤ, ◌+ℤ◌, refl, ap, ap₂, subst, arith}
 use Rattle.std.proofs.lemmas.Int.{ints}
 use Rattle.std.proofs.lemmas.Bool.{cases_lt}
 use Rattle.std.proofs.lemmas.List.{length-append}
@@ -7,7 +7,7 @@ use Rattle.sdmp_laws.specs.Order.{Order}
 use Rattle.sdmp_laws.specs.Poly.{Term, total, norm, Over, AllBelow, AllDegrees, sum_over}
 use Rattle.sdmp_laws.proofs.PolyLemmas.{total_append}
 use Rattle.sdmp_laws.proofs.TermsLemmas.{nothing_below, nil_poly}
-use Rattle.sdmp_laws.proofs.Parts.{norm_append, norm_nil}
+use Rattle.sdmp_laws.proofs.Parts.{norm_append}
 use Rattle.sdmp_laws.proofs.DivisionLemmas.{AllBelow-append}
 use Rattle.sdmp_laws.proofs.LongLemmas.{Over-append}
 use Rattle.sdmp_laws.proofs.DegreeLemmas.{degrees_append}

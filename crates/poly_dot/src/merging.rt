@@ -7,7 +7,7 @@ ghost use Rattle.canonical_terms.specs.View.{term_of, sum_of};
 ghost use Rattle.dot_laws.specs.Sums.{dot, norms};
 ghost use Rattle.poly_dot.specs.Sums.{share, product_of};
 ghost use Rattle.poly_dot.specs.Sources.{modulus_of, rest_of, cost_of, IsUnread};
-ghost use Rattle.poly_dot.specs.Held.{factors_of, IsOver, DegreesFit};
+ghost use Rattle.poly_dot.specs.Held.{factors_of, IsOver, AreVectors, DegreesFit};
 ghost use Rattle.poly_dot.specs.Heads.{HasDigits, credit};
 
 use crate::multiway::MultiwayMerge;
@@ -72,6 +72,7 @@ fn rows_of<'a, R: CoeffRing, M: Monomial>(
     ensures rest { IfOk result (λ m. m.rest ≡ terms M.order pair.entry.f.now.modulus (times pair.entry.f.now.list pair.entry.g.now.list)) }
     ensures canonical { IfOk result (λ m. IsCanonical M.order pair.entry.f.now.modulus M.VARS M.LIM m.rest) }
     ensures counts { IfOk result (λ m. (m.made ≡ 0) × (m.entered ≡ 0)) }
+    ensures vectors { IfOk result (λ _. AreVectors M.VARS (factors_of pair.entry)) }
 {
     if pair.f.terms().len() <= pair.g.terms().len() {
         rows_by(alloc, pair.f, pair.g)
@@ -117,6 +118,7 @@ fn sources_of<'a, R: CoeffRing, M: Monomial>(
     ensures canonical { IfOk result (λ v. All (λ s. IsCanonical M.order (R.characteristic ring) M.VARS M.LIM (rest_of s)) v.items) }
     ensures counts { IfOk result (λ v. All IsUnread v.items) }
     ensures rests { IfOk result (λ v. map rest_of v.items ≡ map (product_of M.order (R.characteristic ring)) (share workers worker 0 (map factors_of pairs.now))) }
+    ensures vectors { IfOk result (λ _. All (AreVectors M.VARS) (share workers worker 0 (map factors_of pairs.now))) }
 {
     let mut sources = Vec::new(alloc);
     for (place, pair) in pairs.iter().enumerate() {

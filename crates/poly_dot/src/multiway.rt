@@ -75,7 +75,7 @@ impl<'a, R: CoeffRing, M: Monomial> MultiwayMerge<'a, R, M> {
         if count > u32::MAX as usize {
             return Err(NoMemory);
         }
-        let coefs = vec![in alloc; ring.zero(); count]?;
+        let coefs = zeros(alloc, ring, count)?;
         let heap = ChainedHeap::with_rows(alloc, count as u32)?;
         Ok(MultiwayMerge {
             ring,
@@ -125,6 +125,20 @@ impl<'a, R: CoeffRing, M: Monomial> MultiwayMerge<'a, R, M> {
         }
         Ok(list)
     }
+}
+
+// so many zeros, copied since a clone need not be an equal element
+fn zeros<R: CoeffRing>(alloc: Global, ring: R, count: usize) -> Result<Vec<R::E>, NoMemory>
+    ensures count { IfOk result (λ list. length list.items ≡ count) }
+    ensures belongs { IfOk result (λ list. All (R.belongs (R.characteristic ring)) list.items) }
+{
+    let zero = ring.zero();
+    let mut list = Vec::new(alloc);
+    list.reserve(count)?;
+    for _ in 0..count {
+        list.push(zero)?;
+    }
+    Ok(list)
 }
 
 // a source whose head is out gives its next term as its head

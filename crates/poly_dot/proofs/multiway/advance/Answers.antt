@@ -1,4 +1,4 @@
-use Rattle.std.proofs.Common.{◌≡◌, ◌+◌, ◌<◌, ◌≤◌, [], length, map, sum_by, refl, sym, ap, ◌∙◌, subst, arith}
+use Rattle.std.proofs.Common.{[], map, sum_by, subst, arith}
 use Rattle.sdmp_laws.specs.Poly.{terms}
 use Rattle.canonical_terms.specs.View.{term_of}
 use Rattle.poly_dot.specs.Sources.{rest_of, cost_of}

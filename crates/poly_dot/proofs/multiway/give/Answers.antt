@@ -1,13 +1,11 @@
-use Rattle.std.proofs.Common.{◌≡◌, ℕ, ◌+◌, ◌<◌, List, [], ◌∷◌, length, map, set, get_or, All, inl, inr, sym, ap, ◌∙◌, subst, refl, arith}
+use Rattle.std.proofs.Common.{◌≡◌, ◌+◌, [], length, map, set, get_or, inl, inr, sym, ap, ◌∙◌, subst, refl, arith}
 use Rattle.std.specs.List.{sum_by}
 use Rattle.std.proofs.lemmas.List.{map-set, get_or-map, length-map}
 use Rattle.std.proofs.lemmas.List.Sums.{sum_by-set}
 use Rattle.std.proofs.lemmas.List.Elements.{All-set, All-get_or}
-use Rattle.canonical_terms.specs.View.{term_of}
 use Rattle.poly_dot.specs.Sources.{modulus_of, rest_of, cost_of}
-use Rattle.poly_dot.specs.Heads.{count_of, heads_in, rest_at}
+use Rattle.poly_dot.specs.Heads.{count_of, heads_in}
 use Rattle.poly_dot.proofs.HeadCounts.{heads_more, cost_given, cost_ended}
-use Rattle.poly_dot.proofs.multiway.give.Given as given
 use Rattle.poly_dot.proofs.multiway.give.Goals as goal
 
 pub returns-in-Some-clause-gives : goal.returns-in-Some-clause-gives

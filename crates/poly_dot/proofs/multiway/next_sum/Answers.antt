@@ -1,12 +1,12 @@
-use Rattle.std.proofs.Common.{◌≡◌, ◌+◌, ◌*◌, ◌<◌, ◌≤◌, [], length, map, sum_by, Some, None, refl, sym, ap, ◌∙◌, subst, arith}
+use Rattle.std.proofs.Common.{◌≡◌, ◌*◌, [], length, map, sum_by, Some, None, sym, ap, ◌∙◌, subst, arith}
 use Rattle.std.proofs.lemmas.List.{length-map}
 use Rattle.canonical_terms.specs.View.{term_of}
-use Rattle.chained_heap.specs.Shape.{taken_at, is_at, count_at}
+use Rattle.chained_heap.specs.Shape.{is_at, count_at}
 use Rattle.row_merge.specs.Rows.{taken_rows}
 use Rattle.row_merge.proofs.Places.{AreOrdered}
 use Rattle.row_merge.proofs.Counts.{taken_count, top_counts}
 use Rattle.poly_dot.specs.Sources.{rest_of, cost_of}
-use Rattle.poly_dot.specs.Heads.{count_of, credit, left, heads_in, AreHeads, IsNextSum}
+use Rattle.poly_dot.specs.Heads.{count_of, left, heads_in, AreHeads, IsNextSum}
 use Rattle.poly_dot.proofs.HeadPlaces.{left_taken, heads_taken, places_free, empty_left}
 use Rattle.poly_dot.proofs.HeadCounts.{heads_taken_out, cost_taken}
 use Rattle.poly_dot.proofs.multiway.next_sum.Given as given
@@ -38,13 +38,13 @@ sum_heads-requires-clause-heads g c κs within =
 pub returns-in-Some-clause-sum : goal.returns-in-Some-clause-sum
 returns-in-Some-clause-sum g c =
     let left_before = ap (λ places. left g.M.Monomial.vector (g.M.Monomial.vector c.in-Some.mono) places (map g.R.CoeffRing.value c.args.coefs.now) (map rest_of c.args.sources.now)) c.in-Some.ensures.places.1
-        ∙ left_taken g.M.Monomial.vector g.M.Monomial.order g.M.Monomial.VARS g.M.Ord.cmp (g.R.CoeffRing.characteristic c.args.ring) g.M.Monomial.LIM (length c.args.sources.now) c.args.heap.now (map g.R.CoeffRing.value c.args.coefs.now) (map rest_of c.args.sources.now) (laws g) c.in-Some.mono c.requires.heads in
+    ∙ left_taken g.M.Monomial.vector g.M.Monomial.order g.M.Monomial.VARS g.M.Ord.cmp (g.R.CoeffRing.characteristic c.args.ring) g.M.Monomial.LIM (length c.args.sources.now) c.args.heap.now (map g.R.CoeffRing.value c.args.coefs.now) (map rest_of c.args.sources.now) (laws g) c.in-Some.mono c.requires.heads in
     subst (λ L. IsNextSum g.M.Monomial.order (g.R.CoeffRing.characteristic c.args.ring) g.M.Monomial.VARS L (left g.M.Monomial.vector [] c.sum_heads.new.heap (map g.R.CoeffRing.value c.sum_heads.new.coefs) (map rest_of c.sum_heads.new.sources)) (term_of g.M.Monomial.vector g.R.CoeffRing.value c.sum_heads.result)) left_before c.sum_heads.ensures.sum
 
 pub returns-in-Some-clause-fewer : goal.returns-in-Some-clause-fewer
 returns-in-Some-clause-fewer g c =
     let left_before = ap (λ places. left g.M.Monomial.vector (g.M.Monomial.vector c.in-Some.mono) places (map g.R.CoeffRing.value c.args.coefs.now) (map rest_of c.args.sources.now)) c.in-Some.ensures.places.1
-        ∙ left_taken g.M.Monomial.vector g.M.Monomial.order g.M.Monomial.VARS g.M.Ord.cmp (g.R.CoeffRing.characteristic c.args.ring) g.M.Monomial.LIM (length c.args.sources.now) c.args.heap.now (map g.R.CoeffRing.value c.args.coefs.now) (map rest_of c.args.sources.now) (laws g) c.in-Some.mono c.requires.heads in
+    ∙ left_taken g.M.Monomial.vector g.M.Monomial.order g.M.Monomial.VARS g.M.Ord.cmp (g.R.CoeffRing.characteristic c.args.ring) g.M.Monomial.LIM (length c.args.sources.now) c.args.heap.now (map g.R.CoeffRing.value c.args.coefs.now) (map rest_of c.args.sources.now) (laws g) c.in-Some.mono c.requires.heads in
     let taken_are = ap taken_rows c.in-Some.ensures.places.1 ∙ taken_count g.M.Ord.cmp c.in-Some.mono c.args.heap.now (places_free g.M.Monomial.vector g.M.Monomial.order g.M.Monomial.VARS g.M.Ord.cmp (g.R.CoeffRing.characteristic c.args.ring) g.M.Monomial.LIM (length c.args.sources.now) c.args.heap.now (map g.R.CoeffRing.value c.args.coefs.now) (map rest_of c.args.sources.now) c.requires.heads) in
     omega (arith, c.sum_heads.ensures.fewer, ap length left_before, taken_are, top_counts g.M.Ord.cmp c.in-Some.mono c.args.heap.now c.in-Some.ensures.places.0)
 

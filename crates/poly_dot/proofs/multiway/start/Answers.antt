@@ -1,4 +1,4 @@
-use Rattle.std.proofs.Common.{◌≡◌, ◌<◌, [], length, map, sum_by, ap, ◌∙◌, arith}
+use Rattle.std.proofs.Common.{◌<◌, [], length, map, sum_by, ◌∙◌, arith}
 use Rattle.std.proofs.lemmas.List.{length-map}
 use Rattle.poly_dot.specs.Sources.{rest_of, cost_of}
 use Rattle.poly_dot.specs.Heads.{credit, heads_in}

@@ -1,4 +1,4 @@
-use Rattle.std.proofs.Common.{◌≡◌, ℕ, ◌+◌, ◌*◌, ◌^◌, ◌<◌, ◌≤◌, [], length, map, All, Some, None, sum_by}
+use Rattle.std.proofs.Common.{◌≡◌, ℕ, ◌+◌, ◌^◌, ◌<◌, ◌≤◌, [], length, map, All, None, sum_by}
 use Rattle.poly_dot.specs.Sources.{modulus_of, rest_of, cost_of}
 use Rattle.poly_dot.specs.Heads.{HasDigits, credit, left, heads_in, AreHeads}
 use Rattle.poly_dot.proofs.multiway.start.Given as goal

@@ -1,6 +1,5 @@
-use Rattle.std.proofs.Common.{◌≡◌, ℕ, ◌+◌, ◌*◌, ◌<◌, ◌≤◌, ℤ, pos, ◌+ℤ◌, [], length, map, sum_by, get_or, Some, None, unsigned_abs, le_refl, refl, sym, ap, ◌∙◌, subst, arith}
+use Rattle.std.proofs.Common.{◌≡◌, ◌+◌, ◌*◌, ◌<◌, ◌≤◌, pos, ◌+ℤ◌, [], length, map, sum_by, get_or, Some, None, unsigned_abs, le_refl, refl, sym, ap, ◌∙◌, subst, arith}
 use Rattle.std.proofs.lemmas.List.{length-map, length-set, get_or-map}
-use Rattle.std.proofs.lemmas.List.Elements.{All-get_or}
 use Rattle.sdmp_laws.specs.Ring.{red}
 use Rattle.sdmp_laws.specs.Poly.{norm}
 use Rattle.chained_heap.specs.declared.node.Place.TheVariants.{Out}
@@ -10,7 +9,7 @@ use Rattle.row_merge.proofs.Counts.{taken_out, none_count}
 use Rattle.poly_dot.specs.Sources.{rest_of, cost_of}
 use Rattle.poly_dot.specs.Heads.{count_of, credit, left, heads_in, AreHeads, IsNextSum}
 use Rattle.poly_dot.proofs.HeadSteps.{Moves, popped_out, moved_length, heads_move, same_left, heads_free, left_below}
-use Rattle.poly_dot.proofs.HeadSums.{Summing, sum_begins, taken_size, sum_size, sum_moves, sum_ends}
+use Rattle.poly_dot.proofs.HeadSums.{sum_begins, taken_size, sum_size, sum_moves, sum_ends}
 use Rattle.poly_dot.proofs.HeadCounts.{heads_out, given_taken, cost_popped}
 use Rattle.poly_dot.proofs.multiway.sum_heads.Given as given
 use Rattle.poly_dot.proofs.multiway.sum_heads.Goals as goal
