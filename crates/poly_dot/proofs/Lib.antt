@@ -5,7 +5,6 @@ pub mod HeadSteps
 pub mod HeadSums
 pub mod HeadCounts
 pub mod PartSums
-pub mod Shares
 pub mod ShareLemmas
 pub mod ProductLists
 pub mod NewHeads

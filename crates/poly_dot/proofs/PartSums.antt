@@ -1,7 +1,8 @@
 -- The parts of all workers make up the sum of all pairs.
-use Rattle.std.proofs.Common.{◌≡◌, ◌≢◌, ℕ, zero, suc, ◌+◌, ◌*◌, ◌%◌, ◌<◌, ◌≤◌, Bool, true, false, cond, eqb, eq-eqb, ne_eqb, mod-lt, List, [], ◌∷◌, ◌++◌, length, map, get_or, All, ℤ, pos, ◌+ℤ◌, refl, sym, ap, ◌∙◌, subst, arith}
+use Rattle.std.proofs.Common.{◌≡◌, ◌≢◌, ℕ, zero, suc, ◌+◌, ◌*◌, ◌%◌, ◌<◌, ◌≤◌, Bool, true, false, cond, eqb, eq-eqb, ne_eqb, mod-lt, List, [], ◌∷◌, ◌++◌, length, map, get_or, take, drop, All, Option, Some, None, IfSome, IsSome, Result, Ok, Err, IfOk, ℤ, pos, ◌+ℤ◌, refl, sym, ap, ◌∙◌, subst, arith}
 use Rattle.std.proofs.lemmas.Int.{ints}
-use Rattle.std.proofs.lemmas.List.{get_or_default}
+use Rattle.std.proofs.lemmas.List.{take_all, take-append-le, get_or_default, get_or-map, length-map}
+use Rattle.std.specs.Global.{Vec}
 use Rattle.sdmp_laws.specs.Order.{Order}
 use Rattle.sdmp_laws.specs.Poly.{Term, total, norm, Same, Over, times, terms, sum_over}
 use Rattle.sdmp_laws.specs.Limits.{greatest_norm}
@@ -11,11 +12,13 @@ use Rattle.sdmp_laws.proofs.PolyLemmas.{total_append, from_total, Same-refl, Sam
 use Rattle.sdmp_laws.proofs.Parts.{norm_append, norm_nil, norm_times}
 use Rattle.sdmp_laws.proofs.NormLemmas.{terms_norm}
 use Rattle.sdmp_laws.proofs.TermsLemmas.{terms_same, terms_equal, total_nil}
+use Rattle.canonical_terms.specs.declared.term.TermOf.{TermOf}
+use Rattle.canonical_terms.specs.View.{sum_of}
 use Rattle.dot_laws.specs.Sums.{Factors, dot, norms}
 use Rattle.poly_dot.specs.Sums.{Pairs, share}
 use Rattle.poly_dot.specs.Held.{AreVectors}
 use Rattle.poly_dot.specs.Heads.{rest_at, all_of}
-use Rattle.poly_dot.specs.Parts.{part_of}
+use Rattle.poly_dot.specs.Parts.{part_of, IsPart, list_of}
 use Rattle.poly_dot.proofs.PairLemmas.{norms_nil, norms_cons}
 use Rattle.poly_dot.proofs.ProductLists.{dot_vectors}
 use Rattle.poly_dot.proofs.SumsOver.{sum_over_same, none_over, size_changed, total_changed, vectors_over, norm_adds}
@@ -102,3 +105,54 @@ module _ (ord : Order) (n lim : ℕ) (d : Pairs) (W : ℕ) (rests : List (List T
     where
       below : (k : ℕ) → k < length rests → k < W
       below k l = omega (arith, l, a.count)
+
+-- ---- what the readers of the lists of all workers have
+both_hold : {T E : Type 0} (r : Result T E) (P Q S : T → Type 0) → ((x : T) → P x → Q x → S x) → IfOk r P → IfOk r Q → IfOk r S
+both_hold (Ok x) P Q S h p q = h x p q
+both_hold (Err e) P Q S h p q = tt
+
+module _ {M E : Type 0} (vector : M → List ℕ) (value : E → ℤ) (belongs : ℕ → E → Type 0) (ord : Order) (n lim : ℕ) (d : Pairs) (W : ℕ) where
+  -- the list that a merge of the part has handed out
+  pub collected : {F : Type 0} (w p : ℕ) (rest : List Term) (r : Result (Vec (TermOf M E)) F) → p ≡ d.modulus → rest ≡ part_of ord d W w → IsCanonical ord d.modulus n lim rest
+      → IfOk r (λ list. sum_of vector value list.items ≡ rest) → IfOk r (λ list. All (λ t. belongs p t.coef) list.items) → IfOk r (λ list. IsPart vector value belongs ord n lim d W w list.items)
+  collected w p rest r e f k a b =
+      both_hold r (λ list. sum_of vector value list.items ≡ rest) (λ list. All (λ t. belongs p t.coef) list.items) (λ list. IsPart vector value belongs ord n lim d W w list.items)
+      (λ list s t. record {
+        terms_are = s ∙ f;
+        of_ring = subst (λ (q : ℕ). All (λ t. belongs q t.coef) list.items) e t;
+        canonical = subst (IsCanonical ord d.modulus n lim) f k;
+      })
+      a b
+
+  part_listed : (o : Option (Vec (TermOf M E))) (w : ℕ) → IsSome o → IfSome o (λ list. IsPart vector value belongs ord n lim d W w list.items) → (list_of vector value o ≡ part_of ord d W w) × IsCanonical ord d.modulus n lim (part_of ord d W w)
+  part_listed None w s h = absurd cc
+  part_listed (Some list) w s h = (h.terms_are, h.canonical)
+
+  pub gathered : (L : List (Option (Vec (TermOf M E)))) (rests : List (List Term)) → All IsSome L → rests ≡ map (list_of vector value) L → length L ≡ W
+      → ((w : ℕ) (none : Option (Vec (TermOf M E))) → w < W → IfSome (get_or L w none) (λ list. IsPart vector value belongs ord n lim d W w list.items)) → AreParts ord n lim d W rests
+  gathered L rests s m e h = record {
+    count = ap length m ∙ length-map L (list_of vector value) ∙ e;
+    each = λ w l. ap (λ (Ls : List (List Term)). rest_at Ls w) m ∙ get_or-map (list_of vector value) L w None [] (within w l) ∙ (part w l).0;
+    canonical = λ w l. (part w l).1;
+  }
+    where
+      within : (w : ℕ) → w < W → w < length L
+      within w l = omega (arith, l, e)
+
+      part : (w : ℕ) → w < W → (list_of vector value (get_or L w None) ≡ part_of ord d W w) × IsCanonical ord d.modulus n lim (part_of ord d W w)
+      part w l = part_listed (get_or L w None) w (s w None (within w l)) (h w None l)
+
+  -- the lists as they stand in the vector that lent them
+  pub gathered_back : (I L : List (Option (Vec (TermOf M E)))) (count : ℕ) (rests : List (List Term))
+      → All IsSome (take count (L ++ drop (length L) I)) → rests ≡ map (list_of vector value) (take count (L ++ drop (length L) I)) → length I ≡ W → length L ≡ length I → count ≡ length I
+      → ((w : ℕ) (none : Option (Vec (TermOf M E))) → w < W → IfSome (get_or L w none) (λ list. IsPart vector value belongs ord n lim d W w list.items)) → AreParts ord n lim d W rests
+  gathered_back I L count rests s m e f k h = gathered L rests (subst (λ Ls. All IsSome Ls) back s) (m ∙ ap (map (list_of vector value)) back) (omega (arith, e, f)) h
+    where
+      back : take count (L ++ drop (length L) I) ≡ L
+      back =
+          let n : count ≤ length L = omega (arith, k, f) in
+          let o : length L ≤ count = omega (arith, k, f) in
+          take-append-le count L (drop (length L) I) n ∙ take_all count L o
+
+pub all_read : {X : Type 0} (P : List Term → Type 0) (f : X → List Term) (xs : List X) → All P (map f xs) → All (λ x. P (f x)) xs
+all_read P f xs h = λ k none l. subst P (get_or-map f xs k none [] l) (h k [] (let e = length-map xs f in omega (arith, l, e)))
