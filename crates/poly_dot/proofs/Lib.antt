@@ -4,6 +4,7 @@ pub mod HeadPlaces
 pub mod HeadSteps
 pub mod HeadSums
 pub mod HeadCounts
+pub mod PartSums
 pub mod ShareLemmas
 pub mod ProductLists
 pub mod NewHeads

@@ -1,15 +1,15 @@
 //! The sum by workers in threads, which share nothing.
-ghost use Rattle.std.specs.Prelude.{◌≡◌, ◌<◌, ◌≤◌, ◌^◌, ℕ, length, map, slice_index_or, All, IfOk};
+ghost use Rattle.std.specs.Prelude.{◌≡◌, ◌<◌, ◌≤◌, ℕ, length, map, slice_index_or, All, IfOk, IfSome, IsSome};
 ghost use Rattle.sdmp_laws.specs.Poly.{norm, terms};
 ghost use Rattle.sdmp_laws.specs.Limits.{greatest_norm};
 ghost use Rattle.sdmp_laws.specs.Canonical.{IsCanonical};
 ghost use Rattle.canonical_terms.specs.View.{sum_of};
 ghost use Rattle.dot_laws.specs.Sums.{dot};
-ghost use Rattle.poly_dot.specs.Heads.{all_of, rest_at};
+ghost use Rattle.poly_dot.specs.Heads.{all_of};
 ghost use Rattle.poly_dot.specs.Sources.{modulus_of, rest_of};
-ghost use Rattle.poly_dot.specs.Parts.{AreParts, IsOfRing, IsListOf};
+ghost use Rattle.poly_dot.specs.Held.{factors_of, AreVectors};
+ghost use Rattle.poly_dot.specs.Parts.{IsPart, list_of};
 
-use crate::merging::DotMerge;
 use crate::multiway::MultiwayMerge;
 use crate::pairs::{Dot, Pair};
 use crate::sources::{Source, TermReader};
@@ -25,79 +25,96 @@ use turnstile::Gate;
 // a thread is worth its start where so many products are to be made in it
 const THREAD_PRODUCTS: usize = 4096;
 
-// What a worker works on: its merge, and the list that it collects.
-#[derive(Drop)]
-struct Share<'a, R: CoeffRing, M: Monomial> {
+// a list for each worker, of which none is collected
+fn no_lists<R: CoeffRing, M: Monomial>(
     alloc: Global,
-    merge: DotMerge<'a, R, M>,
-    list: Result<Vec<Term<R, M>>, NoMemory>,
-}
-
-// what each worker works on: of the pairs at the places i with i mod workers = worker
-fn shares_of<'a, R: CoeffRing, M: Monomial>(
-    alloc: Global,
-    dot: &Dot<'a, R, M>,
     workers: u32,
-) -> Result<Vec<Share<'a, R, M>>, NoMemory>
-    requires workers { 0 < workers }
-    ensures count { IfOk result (λ v. length v.items ≡ workers) }
-    ensures moduli { IfOk result (λ v. All (λ s. s.merge.modulus ≡ dot.now.modulus) v.items) }
-    ensures canonical { IfOk result (λ v. All (λ s. IsCanonical M.order dot.now.modulus M.VARS M.LIM s.merge.rest) v.items) }
-    ensures rests { IfOk result (λ v. AreParts M.order dot.now.modulus workers dot.now.pairs (map (λ s. s.merge.rest) v.items)) }
+) -> Result<Vec<Option<Vec<Term<R, M>>>>, NoMemory>
+    ensures { IfOk result (λ v. length v.items ≡ workers) }
 {
-    let mut shares = Vec::new(alloc);
-    for worker in 0..workers {
-        let merge = dot.merge(alloc, workers, worker)?;
-        shares.push(Share {
-            alloc,
-            merge,
-            list: Ok(Vec::new(alloc)),
-        })?;
+    let mut lists = Vec::new(alloc);
+    for _ in 0..workers {
+        lists.push(None)?;
     }
-    Ok(shares)
+    Ok(lists)
 }
 
-// each worker collects its terms, in so many threads at most
+// the worker arrives at the gate, and collects the terms of the pairs at the places i with i mod workers = worker
+fn collect<R: CoeffRing, M: Monomial, G: Gate>(
+    alloc: Global,
+    dot: &Dot<'_, R, M>,
+    workers: u32,
+    worker: u32,
+    gate: &G,
+) -> Result<Vec<Term<R, M>>, NoMemory>
+    requires worker { worker < workers }
+    ensures { IfOk result (λ list. IsPart M.vector R.value R.belongs M.order M.VARS M.LIM dot.now workers worker list.items) }
+{
+    gate.arrive(worker);
+    let mut merge = dot.merge(alloc, workers, worker)?;
+    merge.all(alloc)
+}
+
+// each worker collects its list, in so many threads at most; there is none where memory was wanting
 fn collect_all<T: Threads + Sync, R: CoeffRing, M: Monomial, G: Gate>(
     threads: &T,
-    shares: &mut [Share<'_, R, M>],
+    alloc: Global,
+    dot: &Dot<'_, R, M>,
+    workers: u32,
+    lists: &mut [Option<Vec<Term<R, M>>>],
     most: usize,
     gate: &G,
 )
     requires most { 0 < most }
-    requires few { length shares.old < 2 ^ 32 }
-    ensures belongs { (p : ℕ) → All (λ s. s.merge.modulus ≡ p) shares.old → All (λ s. IsOfRing (R.belongs p) s.list) shares.new }
-    ensures lists { (w : ℕ) (before : _) (after : _) → w < length shares.old → IsListOf M.vector R.value (slice_index_or shares.old w before).merge.rest (slice_index_or shares.new w after).list }
+    requires count { length lists.old ≡ workers }
+    ensures { (w : ℕ) (none : _) → w < workers → IfSome (slice_index_or lists.new w none) (λ list. IsPart M.vector R.value R.belongs M.order M.VARS M.LIM dot.now workers w list.items) }
 {
-    let each = |worker: usize, share: &mut Share<'_, R, M>| {
-        gate.arrive(worker as u32);
-        share.list = share.merge.all(share.alloc);
+    let each = move |worker: usize, list: &mut Option<Vec<Term<R, M>>>|
+        requires { worker < workers }
+        ensures { IfSome list.exit.now (λ v. IsPart M.vector R.value R.belongs M.order M.VARS M.LIM dot.entry.now workers worker v.items) }
+    {
+        *list = collect(alloc, dot, workers, worker as u32, gate).ok();
     };
-    thread::for_each_mut(threads, shares, most, &each);
+    thread::for_each_mut(threads, lists, most, &each);
+}
+
+// a reader of a list of terms over the ring of the sum
+fn reader_of<'a, R: CoeffRing, M: Monomial>(
+    dot: &Dot<'a, R, M>,
+    list: Vec<Term<R, M>>,
+) -> Source<'a, R, M>
+    requires { All (λ t. R.belongs dot.now.modulus t.coef) list.items }
+    ensures modulus { modulus_of result ≡ dot.now.modulus }
+    ensures terms { rest_of result ≡ sum_of M.vector R.value list.items }
+{
+    Source::Listed(TermReader::new(dot.ring(), list))
 }
 
 // readers of the lists of all workers
 fn readers_of<'a, R: CoeffRing, M: Monomial>(
     alloc: Global,
-    ring: R,
-    shares: Vec<Share<'a, R, M>>,
+    dot: &Dot<'a, R, M>,
+    lists: Vec<Option<Vec<Term<R, M>>>>,
 ) -> Result<Vec<Source<'a, R, M>>, NoMemory>
-    requires belongs { All (λ s. IsOfRing (R.belongs (R.characteristic ring)) s.list) shares.items }
-    ensures moduli { IfOk result (λ v. All (λ s. modulus_of s ≡ R.characteristic ring) v.items) }
-    ensures count { IfOk result (λ v. length v.items ≡ length shares.entry.items) }
-    ensures lists { IfOk result (λ v. (w : ℕ) (share : _) → w < length shares.entry.items → IsListOf M.vector R.value (rest_at (map rest_of v.items) w) (slice_index_or shares.entry.items w share).list) }
+    requires belongs { All (λ o. IfSome o (λ list. All (λ t. R.belongs dot.now.modulus t.coef) list.items)) lists.items }
+    ensures moduli { IfOk result (λ v. All (λ s. modulus_of s ≡ dot.now.modulus) v.items) }
+    ensures whole { IfOk result (λ _. All IsSome lists.items) }
+    ensures lists { IfOk result (λ v. map rest_of v.items ≡ map (list_of M.vector R.value) lists.items) }
 {
     let mut readers: Vec<Source<'a, R, M>> = Vec::new(alloc);
-    for share in shares {
-        let Share { list, .. } = share;
-        let reader = TermReader::new(ring, list?);
-        readers.push(Source::Listed(reader))?;
+    for list in lists {
+        let Some(list) = list else {
+            return Err(NoMemory);
+        };
+        readers.push(reader_of(dot, list))?;
     }
     Ok(readers)
 }
 
 // how many products of two terms all pairs have, up to the greatest word
-fn product_count<R: CoeffRing, M: Monomial>(pairs: &[Pair<'_, R, M>]) -> usize {
+fn product_count<R: CoeffRing, M: Monomial>(pairs: &[Pair<'_, R, M>]) -> usize
+    ensures vectors { All (AreVectors M.VARS) (map factors_of pairs.now) }
+{
     let mut count = 0usize;
     for pair in pairs {
         let products = pair.f.terms().len().saturating_mul(pair.g.terms().len());
@@ -149,11 +166,11 @@ impl<'a, R: CoeffRing, M: Monomial> Dot<'a, R, M> {
         ensures modulus { IfOk result (λ h. h.modulus ≡ self.entry.modulus) }
         ensures terms { IfOk result (λ h. h.list ≡ terms M.order self.entry.modulus (dot self.entry.pairs)) }
     {
-        let most = threads_for(workers, product_count(self.pairs()));
         let ring = self.ring();
-        let mut shares = shares_of(alloc, &self, workers)?;
-        collect_all(threads, &mut shares, most, gate);
-        let readers = readers_of(alloc, ring, shares)?;
+        let most = threads_for(workers, product_count(self.pairs()));
+        let mut lists = no_lists::<R, M>(alloc, workers)?;
+        collect_all(threads, alloc, &self, workers, &mut lists, most, gate);
+        let readers = readers_of(alloc, &self, lists)?;
         let list = merged(alloc, ring, readers)?;
         Ok(Poly::from_ordered(ring, list))
     }
