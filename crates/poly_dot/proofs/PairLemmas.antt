@@ -1,10 +1,10 @@
 -- Pairs of factors: their norms, and one pair more.
-use Rattle.std.proofs.Common.{◌≡◌, ℕ, ◌+◌, ◌*◌, ◌<◌, ◌≤◌, List, [], ◌∷◌, ◌++◌, length, map, All, refl, sym, ap, ◌∙◌, subst, arith}
-use Rattle.std.proofs.lemmas.List.{length-append, map-append}
-use Rattle.std.proofs.lemmas.List.Sums.{sum_by-cons, sum_by-append, get_or-le-sum_by}
+use Rattle.std.proofs.Common.{◌≡◌, ℕ, ◌+◌, ◌*◌, ◌<◌, ◌≤◌, List, [], ◌∷◌, ◌++◌, length, All, refl, sym, ap, ◌∙◌, subst, arith}
+use Rattle.std.proofs.lemmas.List.{length-append}
+use Rattle.std.proofs.lemmas.List.Sums.{sum_by-cons, sum_by-append}
 use Rattle.std.proofs.lemmas.List.Elements.{All-nil, All-push}
 use Rattle.sdmp_laws.specs.Poly.{norm}
-use Rattle.sdmp_laws.specs.Limits.{greatest_norm, HasRoom}
+use Rattle.sdmp_laws.specs.Limits.{greatest_norm}
 use Rattle.dot_laws.specs.Sums.{Factors, norms}
 use Rattle.poly_dot.specs.Held.{DegreesFit, ArePairs}
 

@@ -1,6 +1,5 @@
 -- The parts of all workers make up the sum of all pairs.
-use Rattle.std.proofs.Common.{◌≡◌, ◌≢◌, ℕ, zero, suc, ◌+◌, ◌*◌, ◌%◌, ◌<◌, ◌≤◌, Bool, true, false, cond, eqb, eq-eqb, ne_eqb, mod-lt, List, [], ◌∷◌, ◌++◌, length, map, get_or, take, drop, All, Option, Some, None, IfSome, IsSome, Result, Ok, Err, IfOk, ℤ, pos, ◌+ℤ◌, refl, sym, ap, ◌∙◌, subst, arith}
-use Rattle.std.proofs.lemmas.Int.{ints}
+use Rattle.std.proofs.Common.{◌≡◌, ◌≢◌, ℕ, zero, suc, ◌+◌, ◌*◌, ◌%◌, ◌<◌, ◌≤◌, Bool, cond, eq-eqb, ne_eqb, mod-lt, List, [], ◌∷◌, ◌++◌, length, map, get_or, take, drop, All, Option, Some, None, IfSome, IsSome, Result, Ok, Err, IfOk, ℤ, ◌+ℤ◌, refl, sym, ap, ◌∙◌, subst, arith}
 use Rattle.std.proofs.lemmas.List.{take_all, take-append-le, get_or_default, get_or-map, length-map}
 use Rattle.std.specs.Global.{Vec}
 use Rattle.sdmp_laws.specs.Order.{Order}
@@ -11,7 +10,7 @@ use Rattle.sdmp_laws.specs.Ring.{red}
 use Rattle.sdmp_laws.proofs.PolyLemmas.{total_append, from_total, Same-refl, Same-trans, Same-append}
 use Rattle.sdmp_laws.proofs.Parts.{norm_append, norm_nil, norm_times}
 use Rattle.sdmp_laws.proofs.NormLemmas.{terms_norm}
-use Rattle.sdmp_laws.proofs.TermsLemmas.{terms_same, terms_equal, total_nil}
+use Rattle.sdmp_laws.proofs.TermsLemmas.{terms_same, terms_equal}
 use Rattle.canonical_terms.specs.declared.term.TermOf.{TermOf}
 use Rattle.canonical_terms.specs.View.{sum_of}
 use Rattle.dot_laws.specs.Sums.{Factors, dot, norms}

@@ -1,8 +1,6 @@
-use Rattle.std.proofs.Common.{◌≡◌, [], ◌∷◌, ℕ, length, map, All, refl, sym, ap, ◌∙◌, subst, arith}
-use Rattle.sdmp_laws.specs.Poly.{norm, terms}
-use Rattle.sdmp_laws.specs.Limits.{greatest_norm}
+use Rattle.std.proofs.Common.{ℕ, map, All, sym, ap, ◌∙◌, subst, arith}
+use Rattle.sdmp_laws.specs.Poly.{terms}
 use Rattle.sdmp_laws.specs.Canonical.{IsCanonical}
-use Rattle.dot_laws.specs.Sums.{dot, norms}
 use Rattle.poly_dot.specs.Heads.{all_of}
 use Rattle.poly_dot.specs.Sources.{rest_of}
 use Rattle.poly_dot.specs.Held.{AreVectors}
