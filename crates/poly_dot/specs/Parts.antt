@@ -6,7 +6,7 @@ use Rattle.sdmp_laws.specs.Poly.{Term, terms}
 use Rattle.sdmp_laws.specs.Canonical.{IsCanonical}
 use Rattle.canonical_terms.specs.declared.term.TermOf.{TermOf}
 use Rattle.canonical_terms.specs.View.{sum_of}
-use Rattle.dot_laws.specs.Sums.{dot}
+use Rattle.dot_laws.specs.Sums.{Factors, dot}
 use Rattle.poly_dot.specs.Sums.{Pairs, share}
 
 -- the terms of the part of worker w of W
