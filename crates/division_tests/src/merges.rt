@@ -11,7 +11,7 @@ ghost use Rattle.division_tests.specs.Examples.{square_and_one, x_term};
 
 use crate::alone::{begin, hire, open_row};
 use crate::lines::{Line, binomial};
-use canonical_terms::TermOf;
+use canonical_terms::{Term, TermOf};
 use coeff_ring::Integers;
 use divide_merge::{DivideAdvanceOf, DivideMerge, DivideTally};
 use packed_monomial::Monomial;
@@ -120,6 +120,14 @@ fn learned(reader: &mut RowReader<Integers, Line>, row: &Row<Integers, Line>) ->
     }
 }
 
+// those of the one term, if there is one
+fn only(terms: &[Term<Integers, Line>]) -> Option<(u32, i128)> {
+    match terms {
+        [term] => Some((term.mono.exponent(0), term.coef)),
+        _ => None,
+    }
+}
+
 #[test]
 fn finds_a_term_once_there_is_room(rt: HostRuntime) -> Result<(), Fail> {
     let begun = begin_all(rt.alloc(), 4)?;
@@ -136,11 +144,12 @@ fn finds_a_term_once_there_is_room(rt: HostRuntime) -> Result<(), Fail> {
     let receipt = merge.advance(&rings, &row, &mut steps);
     assert!(rt; matches!(receipt.answer(), DivideAdvanceOf::Blocked(0)));
     assert!(rt; merge.progress() == 2 && !merge.is_over() && merge.front().is_some());
-    assert!(rt; merge.quotient().len() == 1);
+    assert_eq!(rt; only(merge.quotient()), Some((1, 1)));
 
     merge.whole();
     merge.meet(&rings[0], &row, 0, &mut writer, &mut reader);
-    assert!(rt; learned(&mut reader, &row).is_some());
+    assert_eq!(rt; learned(&mut reader, &row), Some((1, 1)));
+    assert_eq!(rt; learned(&mut reader, &row), None);
     Ok(())
 }
 

@@ -1,126 +1,121 @@
 //! Divisions with known answers.
-ghost use Rattle.std.specs.Prelude.{◌≡◌};
+ghost use Rattle.std.specs.Prelude.{◌≡◌, length};
 
-use crate::lines::{Line, two_terms};
-use canonical_terms::{Poly, TermOf};
+use crate::texts::{names_of, text_of};
+use canonical_terms::Poly;
 use coeff_residue::Residues;
-use coeff_ring::Integers;
+use coeff_ring::{CoeffRing, Integers};
 use divide_core::{DivideFault, Division, divide_alone};
 use packed_monomial::{Monomial, Packed};
+use poly_text::{Names, read_poly};
 use sdmp_laws::Mode;
 use std::alloc::Global;
 use std::test::Fail;
 
-// the coefficients, the greatest monomial's first
-fn coefs(alloc: Global, f: &Line) -> Result<Vec<i128>, Fail> {
-    let mut list = Vec::new(alloc);
-    for t in f.terms() {
-        list.push(t.coef)?;
-    }
-    Ok(list)
+/// The dividend and the divisor, how they are divided, and what that is to answer.
+type Row<'a> = (&'a str, &'a str, Mode, Answer<'a>);
+
+#[derive(Clone, Copy, Drop)]
+enum Answer<'a> {
+    Quotient(&'a str),
+    NoQuotient,
+    Remainder { q: &'a str, r: &'a str },
+    Refused(DivideFault),
 }
 
-fn quotient(alloc: Global, f: &Line, g: &Line) -> Result<Option<Vec<i128>>, Fail>
-    requires { f.now.modulus ≡ g.now.modulus }
+fn is_text<R: CoeffRing, M: Monomial>(
+    alloc: Global,
+    poly: &Poly<R, M>,
+    names: &Names,
+    want: &str,
+) -> Result<bool, Fail>
+    requires { length names.now ≡ M.VARS }
 {
-    match divide_alone(alloc, f, g, Mode::Exact)? {
-        Division::Quotient(q) => Ok(Some(coefs(alloc, &q)?)),
-        Division::NoQuotient => Ok(None),
-        Division::Remainder { q: _, r: _ } => Ok(None),
+    let text = text_of(alloc, poly, names)?;
+    Ok(text.as_slice() == want.as_bytes())
+}
+
+// whether the division answers as it is to
+fn is_right<R: CoeffRing, M: Monomial>(
+    alloc: Global,
+    ring: R,
+    names: &Names,
+    row: Row<'_>,
+) -> Result<bool, Fail>
+    requires { length names.now ≡ M.VARS }
+{
+    let (f, g, mode, want) = row;
+    let f = read_poly::<R, M>(alloc, ring, names, f.as_bytes())?;
+    let g = read_poly::<R, M>(alloc, ring, names, g.as_bytes())?;
+    match divide_alone(alloc, &f, &g, mode) {
+        Ok(Division::Quotient(q)) => match want {
+            Answer::Quotient(text) => is_text(alloc, &q, names, text),
+            _ => Ok(false),
+        },
+        Ok(Division::NoQuotient) => Ok(matches!(want, Answer::NoQuotient)),
+        Ok(Division::Remainder { q, r }) => match want {
+            Answer::Remainder {
+                q: quotient,
+                r: rest,
+            } => Ok(is_text(alloc, &q, names, quotient)? && is_text(alloc, &r, names, rest)?),
+            _ => Ok(false),
+        },
+        Err(fault) => Ok(matches!(want, Answer::Refused(cause) if cause == fault)),
     }
 }
 
 #[test]
-fn divides_exactly(rt: HostRuntime) -> Result<(), Fail> {
-    let alloc = rt.alloc();
-    // (x^3 - 1)/(x - 1)
-    let cube = two_terms(alloc, 1, 3, -1, 0)?;
-    let line = two_terms(alloc, 1, 1, -1, 0)?;
-    assert!(rt;
-        quotient(alloc, &cube, &line)?.is_some_and(|q| q.as_slice() == [1, 1, 1].as_slice())
-    );
-    // (x^2 + 1)/(x + 1) fails after two terms
-    let square = two_terms(alloc, 1, 2, 1, 0)?;
-    let sum = two_terms(alloc, 1, 1, 1, 0)?;
-    assert!(rt; quotient(alloc, &square, &sum)?.is_none());
-    // (4x^2 - 1)/(2x + 1)
-    let squares = two_terms(alloc, 4, 2, -1, 0)?;
-    let double = two_terms(alloc, 2, 1, 1, 0)?;
-    assert!(rt;
-        quotient(alloc, &squares, &double)?.is_some_and(|q| q.as_slice() == [2, -1].as_slice())
-    );
+fn divides_integers(rt: HostRuntime) -> Result<(), Fail> {
+    let names = names_of(rt.alloc(), b"x", 1)?;
+    let far = "x-1152921504606846976";
+    let bound = Answer::Refused(DivideFault::CoefficientBound);
+    let no_unit = Answer::Refused(DivideFault::NotUnit);
+    let zero = Answer::Refused(DivideFault::ZeroDivisor);
+    let rows = [
+        ("x^3-1", "x-1", Mode::Exact, Answer::Quotient("x^2+x+1")),
+        // it fails after two terms
+        ("x^2+1", "x+1", Mode::Exact, Answer::NoQuotient),
+        ("x^2", "2*x", Mode::Exact, Answer::NoQuotient),
+        ("4*x^2-1", "2*x+1", Mode::Exact, Answer::Quotient("2*x-1")),
+        ("x^2", "2*x+1", Mode::Remainder, no_unit),
+        ("x^2", "0", Mode::Exact, zero),
+        // the third quotient term passes the bound, also where the division would fail later
+        ("x^3", far, Mode::Remainder, bound),
+        ("x^3", far, Mode::Exact, bound),
+    ];
+    for i in 0..rows.len() {
+        let right = is_right::<Integers, Packed<1>>(rt.alloc(), Integers, &names, rows[i])?;
+        assert!(rt; right, "row {i}");
+    }
     Ok(())
 }
 
 #[test]
-fn refuses(rt: HostRuntime) -> Result<(), Fail> {
-    let alloc = rt.alloc();
-    let square = two_terms(alloc, 1, 2, 0, 0)?;
-    let double = two_terms(alloc, 2, 1, 1, 0)?;
-    let zero = Line::zero(alloc, Integers);
-    assert!(rt;
-        matches!(
-            divide_alone(alloc, &square, &zero, Mode::Exact),
-            Err(DivideFault::ZeroDivisor)
-        )
-    );
-    assert!(rt;
-        matches!(
-            divide_alone(alloc, &square, &double, Mode::Remainder),
-            Err(DivideFault::NotUnit)
-        )
-    );
-    // the third quotient term of x^3 by x - 2^60 passes the bound, also where the division would fail later
-    let cube = two_terms(alloc, 1, 3, 0, 0)?;
-    let far = two_terms(alloc, 1, 1, -1152921504606846976, 0)?;
-    assert!(rt;
-        matches!(
-            divide_alone(alloc, &cube, &far, Mode::Remainder),
-            Err(DivideFault::CoefficientBound)
-        )
-    );
-    assert!(rt;
-        matches!(
-            divide_alone(alloc, &cube, &far, Mode::Exact),
-            Err(DivideFault::CoefficientBound)
-        )
-    );
-    Ok(())
-}
-
-#[test]
-fn leaves_a_remainder_of_residues(rt: HostRuntime) -> Result<(), Fail> {
-    let alloc = rt.alloc();
+fn divides_residues(rt: HostRuntime) -> Result<(), Fail> {
+    let names = names_of(rt.alloc(), b"x", 1)?;
     let ring = Residues::new(6).ok_or("modulus")?;
-    let square = [
-        TermOf {
-            mono: Packed::<1>::pack(&[2])?,
-            coef: 1u64,
-        },
-        TermOf {
-            mono: Packed::<1>::pack(&[0])?,
-            coef: 1u64,
-        },
+    let no_unit = Answer::Refused(DivideFault::NotUnit);
+    let rest = Answer::Remainder { q: "5*x+5", r: "2" };
+    let rows = [
+        ("x^2", "2*x+1", Mode::Exact, no_unit),
+        ("x^2-1", "x-1", Mode::Exact, Answer::Quotient("x+1")),
+        ("x^2+1", "5*x+1", Mode::Remainder, rest),
     ];
-    let line = [
-        TermOf {
-            mono: Packed::<1>::pack(&[1])?,
-            coef: 5u64,
-        },
-        TermOf {
-            mono: Packed::<1>::pack(&[0])?,
-            coef: 1u64,
-        },
-    ];
-    let f = Poly::<Residues, Packed<1>>::from_terms(alloc, ring, square.to_vec(alloc)?)?;
-    let g = Poly::<Residues, Packed<1>>::from_terms(alloc, ring, line.to_vec(alloc)?)?;
-    // x^2 + 1 = (5x + 5)(5x + 1) + 2 modulo 6
-    let Division::Remainder { q, r } = divide_alone(alloc, &f, &g, Mode::Remainder)? else {
-        return Err(Fail::from("no remainder"));
+    for i in 0..rows.len() {
+        let right = is_right::<Residues, Packed<1>>(rt.alloc(), ring, &names, rows[i])?;
+        assert!(rt; right, "row {i}");
+    }
+    Ok(())
+}
+
+#[test]
+fn leaves_a_remainder_in_two_variables(rt: HostRuntime) -> Result<(), Fail> {
+    let names = names_of(rt.alloc(), b"x y", 2)?;
+    let rest = Answer::Remainder {
+        q: "x+y",
+        r: "y^2+x+y",
     };
-    assert_eq!(rt; q.terms().len(), 2);
-    assert_eq!(rt; q.norm(), 10);
-    assert_eq!(rt; r.terms().len(), 1);
-    assert_eq!(rt; r.norm(), 2);
+    let row = ("x^2*y+x*y^2+y^2", "x*y-1", Mode::Remainder, rest);
+    assert!(rt; is_right::<Integers, Packed<2>>(rt.alloc(), Integers, &names, row)?);
     Ok(())
 }

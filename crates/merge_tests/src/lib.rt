@@ -17,3 +17,5 @@ mod polys;
 mod products;
 #[cfg(test)]
 mod quotients;
+#[cfg(test)]
+mod texts;

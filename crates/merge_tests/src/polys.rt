@@ -1,5 +1,6 @@
 //! Polynomials are sums of lists of terms.
 use crate::lines::two_terms;
+use crate::texts::{names_of, text_of};
 use canonical_terms::{Poly, PolyFault, TermOf};
 use coeff_ring::Integers;
 use packed_monomial::{Monomial, Packed};
@@ -19,7 +20,11 @@ fn sums_terms(rt: HostRuntime) -> Result<(), Fail> {
         Integers,
         list.to_vec(rt.alloc())?,
     )?;
-    assert_eq!(rt; sum.terms().len(), 1);
+    let names = names_of(rt.alloc(), b"x", 1)?;
+    assert_eq!(rt;
+        text_of(rt.alloc(), &sum, &names)?.as_slice(),
+        b"2".as_slice()
+    );
     assert_eq!(rt; sum.norm(), 2);
     assert_eq!(rt; sum.degree(), Some(0));
     Ok(())
@@ -49,9 +54,17 @@ fn refuses_a_great_sum(rt: HostRuntime) -> Result<(), Fail> {
 fn copies(rt: HostRuntime) -> Result<(), Fail> {
     let zero = Poly::<Integers, Packed<1>>::zero(rt.alloc(), Integers);
     assert_eq!(rt; zero.degree(), None);
+    let names = names_of(rt.alloc(), b"x", 1)?;
+    assert_eq!(rt;
+        text_of(rt.alloc(), &zero, &names)?.as_slice(),
+        b"0".as_slice()
+    );
     let sum = two_terms(rt.alloc(), 1, 1, 1, 0)?;
     let copy = sum.copy(rt.alloc())?;
-    assert_eq!(rt; copy.terms().len(), 2);
+    assert_eq!(rt;
+        text_of(rt.alloc(), &copy, &names)?.as_slice(),
+        b"x+1".as_slice()
+    );
     assert_eq!(rt; copy.norm(), 2);
     Ok(())
 }

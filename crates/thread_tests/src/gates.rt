@@ -7,25 +7,34 @@ use std::test::Fail;
 use std::thread;
 use turnstile::Gate;
 
-const TURNS: u64 = 10_000_000;
+/// The most turns of all holds of a gate together.
+pub const TURNS: u64 = 10_000_000;
 
-/// Holds the first arrival of one worker until another has arrived.
+/// Holds the first arrival of one worker until another has arrived, for so many turns at most.
 #[derive(Drop)]
 pub struct HoldGate {
     held: u32,
     until: u32,
+    turns: u64,
     begun: AtomicU64,
     come: AtomicU64,
+    given_up: AtomicU64,
 }
 
 impl HoldGate {
-    pub fn new(held: u32, until: u32) -> HoldGate {
+    pub fn new(held: u32, until: u32, turns: u64) -> HoldGate {
         HoldGate {
             held,
             until,
+            turns,
             begun: AtomicU64::new(0),
             come: AtomicU64::new(0),
+            given_up: AtomicU64::new(0),
         }
+    }
+
+    pub fn is_used_up(&self) -> bool {
+        self.given_up.load(SeqCst) == 1
     }
 }
 
@@ -37,25 +46,27 @@ impl Gate for HoldGate {
         if worker != self.held || self.begun.swap(1, SeqCst) == 1 {
             return;
         }
-        for _ in 0..TURNS {
+        for _ in 0..self.turns {
             if self.come.load(SeqCst) == 1 {
                 return;
             }
             thread::yield_now();
         }
+        self.given_up.store(1, SeqCst);
     }
 }
 
-/// Holds each arrival of one worker until every other has arrived as often.
+/// Holds each arrival of one worker until every other has arrived as often. All that it holds it holds for so many turns together.
 #[derive(Drop)]
 pub struct LastGate {
     last: u32,
     arrivals: Vec<AtomicU64>,
-    turns: AtomicU64,
+    turns: u64,
+    used: AtomicU64,
 }
 
 impl LastGate {
-    pub fn new(alloc: Global, last: u32, workers: u32) -> Result<LastGate, Fail> {
+    pub fn new(alloc: Global, last: u32, workers: u32, turns: u64) -> Result<LastGate, Fail> {
         let mut arrivals = Vec::new(alloc);
         for _ in 0..workers {
             arrivals.push(AtomicU64::new(0))?;
@@ -63,8 +74,13 @@ impl LastGate {
         Ok(LastGate {
             last,
             arrivals,
-            turns: AtomicU64::new(0),
+            turns,
+            used: AtomicU64::new(0),
         })
+    }
+
+    pub fn is_used_up(&self) -> bool {
+        self.used.load(SeqCst) >= self.turns
     }
 
     fn have_all_come(&self, times: u64) -> bool {
@@ -86,10 +102,11 @@ impl Gate for LastGate {
         if worker != self.last {
             return;
         }
-        for _ in 0..TURNS {
-            if self.have_all_come(times) || self.turns.fetch_add(1, SeqCst) >= TURNS {
+        for _ in 0..self.turns {
+            if self.have_all_come(times) || self.is_used_up() {
                 return;
             }
+            self.used.fetch_add(1, SeqCst);
             thread::yield_now();
         }
     }

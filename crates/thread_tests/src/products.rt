@@ -1,7 +1,7 @@
 //! Products by workers, with gates that hold some of them, and what is refused.
 ghost use Rattle.std.specs.Prelude.{◌≡◌, ◌<◌, IfOk};
 
-use crate::gates::{CountGate, HoldGate, LastGate, PairGate};
+use crate::gates::{CountGate, HoldGate, LastGate, PairGate, TURNS};
 use crate::lines::{Line, binomial, shown};
 use canonical_terms::{Poly, TermOf};
 use coeff_residue::Residues;
@@ -169,53 +169,108 @@ fn refuses_a_great_degree(rt: HostRuntime) -> Result<(), Fail> {
     Ok(())
 }
 
-// the three pairs, each with a gate of its own that counts
-#[test]
-fn each_worker_arrives_in_each_round(rt: HostRuntime) -> Result<(), Fail> {
-    let alloc = rt.alloc();
-    for workers in [1, 2, 64] {
-        for places in [2, 1024] {
-            let gate = CountGate::new();
-            let (rounds, _) = difference_of_squares(&rt, alloc, workers, places, &gate)?;
-            assert_eq!(rt; gate.arrivals(), rounds.wrapping_mul(workers as u64));
-        }
-    }
-    for workers in [2, 3] {
-        let gate = CountGate::new();
-        let rounds = difference_in_two_variables(&rt, alloc, workers, 2, &gate)?;
-        assert_eq!(rt; gate.arrivals(), rounds.wrapping_mul(workers as u64));
-    }
-    let gate = CountGate::new();
-    let rounds = zero_modulo_six(&rt, alloc, 2, 2, &gate)?;
-    assert_eq!(rt; gate.arrivals(), rounds.wrapping_mul(2));
-    Ok(())
+#[derive(Clone, Copy, Drop)]
+enum Pair {
+    OneVariable,
+    TwoVariables,
+    Residues,
 }
 
+// the rounds of the product of the pair
+fn rounds_of<T: Threads + Sync, G: Gate>(
+    rt: &T,
+    alloc: Global,
+    pair: Pair,
+    workers: u32,
+    places: u32,
+    gate: &G,
+) -> Result<u64, Fail>
+    requires { (0 < workers) × (0 < places) }
+{
+    match pair {
+        Pair::OneVariable => {
+            let (rounds, _) = difference_of_squares(rt, alloc, workers, places, gate)?;
+            Ok(rounds)
+        }
+        Pair::TwoVariables => difference_in_two_variables(rt, alloc, workers, places, gate),
+        Pair::Residues => zero_modulo_six(rt, alloc, workers, places, gate),
+    }
+}
+
+// The product under gates that hold the first worker for one other or for all of them, for so many turns. Whether each has used them up.
+fn holds_the_first<T: Threads + Sync>(
+    rt: &T,
+    alloc: Global,
+    pair: Pair,
+    workers: u32,
+    places: u32,
+    turns: u64,
+) -> Result<bool, Fail>
+    requires { (0 < workers) × (0 < places) }
+{
+    let each = LastGate::new(alloc, 0, workers, turns)?;
+    rounds_of(rt, alloc, pair, workers, places, &each)?;
+    if workers == 1 {
+        return Ok(each.is_used_up());
+    }
+    let first = HoldGate::new(0, 1, turns);
+    rounds_of(rt, alloc, pair, workers, places, &first)?;
+    Ok(each.is_used_up() && first.is_used_up())
+}
+
+// the product under each gate, where each worker has a thread of its own or none is held for a later one of its thread
+fn is_answered<T: Threads + Sync>(
+    rt: &T,
+    alloc: Global,
+    pair: Pair,
+    workers: u32,
+    places: u32,
+) -> Result<bool, Fail>
+    requires { (0 < workers) × (0 < places) }
+{
+    rounds_of(rt, alloc, pair, workers, places, &OpenGate)?;
+    let end = workers.saturating_sub(1);
+    let last = LastGate::new(alloc, end, workers, TURNS)?;
+    rounds_of(rt, alloc, pair, workers, places, &last)?;
+    if workers > 1 {
+        let first = HoldGate::new(0, end, TURNS);
+        rounds_of(rt, alloc, pair, workers, places, &first)?;
+    }
+    let count = CountGate::new();
+    let rounds = rounds_of(rt, alloc, pair, workers, places, &count)?;
+    Ok(count.arrivals() == rounds.wrapping_mul(workers as u64))
+}
+
+// no gate changes the answer, and each worker arrives in each round
 #[test]
 fn no_gate_changes_the_answer(rt: HostRuntime) -> Result<(), Fail> {
     let alloc = rt.alloc();
     for workers in [1, 2, 64] {
         for places in [2, 1024] {
-            difference_of_squares(&rt, alloc, workers, places, &OpenGate)?;
-            // workers of one thread advance in their order
-            let end = workers.saturating_sub(1);
-            let last = LastGate::new(alloc, end, workers)?;
-            difference_of_squares(&rt, alloc, workers, places, &last)?;
-            if workers > 1 {
-                difference_of_squares(&rt, alloc, workers, places, &HoldGate::new(0, end))?;
-            }
+            assert!(rt; is_answered(&rt, alloc, Pair::OneVariable, workers, places)?);
         }
     }
     for workers in [2, 3] {
-        difference_in_two_variables(&rt, alloc, workers, 2, &OpenGate)?;
-        let end = workers.saturating_sub(1);
-        difference_in_two_variables(&rt, alloc, workers, 2, &HoldGate::new(0, end))?;
-        let last = LastGate::new(alloc, end, workers)?;
-        difference_in_two_variables(&rt, alloc, workers, 2, &last)?;
+        assert!(rt; is_answered(&rt, alloc, Pair::TwoVariables, workers, 2)?);
     }
-    zero_modulo_six(&rt, alloc, 2, 2, &OpenGate)?;
-    zero_modulo_six(&rt, alloc, 2, 2, &HoldGate::new(0, 1))?;
-    let last = LastGate::new(alloc, 1, 2)?;
-    zero_modulo_six(&rt, alloc, 2, 2, &last)?;
+    assert!(rt; is_answered(&rt, alloc, Pair::Residues, 2, 2)?);
+    Ok(())
+}
+
+#[test]
+fn no_gate_changes_the_answer_while_the_first_worker_is_held(rt: HostRuntime) -> Result<(), Fail> {
+    let alloc = rt.alloc();
+    for workers in [1, 2, 64] {
+        holds_the_first(&rt, alloc, Pair::OneVariable, workers, 2, TURNS)?;
+    }
+    for workers in [1, 2] {
+        holds_the_first(&rt, alloc, Pair::OneVariable, workers, 1024, TURNS)?;
+    }
+    // the second worker advances after the first, in the same thread
+    assert!(rt; holds_the_first(&rt, alloc, Pair::OneVariable, 64, 1024, 1_000)?);
+    for workers in [2, 3] {
+        holds_the_first(&rt, alloc, Pair::TwoVariables, workers, 2, TURNS)?;
+    }
+    holds_the_first(&rt, alloc, Pair::Residues, 2, 2, TURNS)?;
     Ok(())
 }
