@@ -1,10 +1,9 @@
 //! Long quotients: that of x^200 - 1 by x - 1, and powers of a sum in four variables.
-ghost use Rattle.std.specs.Prelude.{◌≡◌, ◌<◌};
+ghost use Rattle.std.specs.Prelude.{◌<◌};
 
 use crate::answers::{Answer, Case, Team, rounds_of};
 use crate::polys::{Power, is_same};
-use crate::sums::{Space, power_and_next, times};
-use canonical_terms::Poly;
+use crate::sums::{power_and_next, times};
 use coeff_ring::Integers;
 use divide_core::Division;
 use divide_workers::{Divided, divide};
@@ -46,23 +45,22 @@ fn divides_a_long_power_in_few_rounds(rt: HostRuntime) -> Result<(), Fail> {
     Ok(())
 }
 
-// whether so many workers divide the first by the second to the third
-fn is_quotient<T: Threads + Sync>(
+// the power times the next polynomial, divided by the power, is the next polynomial
+fn divides_back<T: Threads + Sync>(
     rt: &T,
     alloc: Global,
-    whole: &Poly<Integers, Space>,
-    power: &Poly<Integers, Space>,
-    next: &Poly<Integers, Space>,
+    exponent: u32,
     workers: u32,
-) -> Result<bool, Fail>
-    requires moduli { whole.now.modulus ≡ power.now.modulus }
-    requires workers { 0 < workers }
+) -> Result<usize, Fail>
+    requires { 0 < workers }
 {
+    let (power, next) = power_and_next(alloc, exponent)?;
+    let whole = times(alloc, &power, &next)?;
     let divided = divide(
         rt,
         alloc,
-        whole,
-        power,
+        &whole,
+        &power,
         Mode::Exact,
         workers,
         1024,
@@ -73,30 +71,47 @@ fn is_quotient<T: Threads + Sync>(
         rounds: _,
         last,
     } = divided;
-    match answer {
-        Division::Quotient(q) => {
-            Ok(is_same(&q, next) && last.terms() == next.terms().len() as u64)
-        }
-        Division::NoQuotient => Ok(false),
-        Division::Remainder { q: _q, r: _r } => Ok(false),
-    }
-}
-
-// The power times the next polynomial, divided by the power, is the next polynomial, by one worker and by more. So many terms has the dividend.
-fn divides_back<T: Threads + Sync>(rt: &T, alloc: Global, exponent: u32) -> Result<usize, Fail> {
-    let (power, next) = power_and_next(alloc, exponent)?;
-    let whole = times(alloc, &power, &next)?;
-    for workers in [1, 3, 8] {
-        if !is_quotient(rt, alloc, &whole, &power, &next, workers)? {
-            return Err(Fail::from("another quotient"));
-        }
-    }
-    Ok(whole.terms().len())
+    let quotient = match answer {
+        Division::Quotient(q) => q,
+        Division::NoQuotient => return Err(Fail::from("no quotient")),
+        Division::Remainder { q: _q, r: _r } => return Err(Fail::from("a remainder")),
+    };
+    let terms = next.terms().len();
+    let right = is_same(&quotient, &next) && last.terms() == terms as u64;
+    Ok(
+        right
+            .then_some(whole.terms().len())
+            .ok_or("another quotient")?,
+    )
 }
 
 #[test]
 fn divides_by_powers_of_five_terms(rt: HostRuntime) -> Result<(), Fail> {
-    assert_eq!(rt; divides_back(&rt, rt.alloc(), 6)?, 1820);
-    assert_eq!(rt; divides_back(&rt, rt.alloc(), 12)?, 20_475);
+    for workers in [1, 3, 8] {
+        assert_eq!(rt;
+            divides_back(&rt, rt.alloc(), 6, workers)?,
+            1820,
+            "{workers} workers"
+        );
+    }
+    Ok(())
+}
+
+// a great power takes long to divide by: each number of workers has a test of its own
+#[test]
+fn one_worker_divides_by_a_great_power(rt: HostRuntime) -> Result<(), Fail> {
+    assert_eq!(rt; divides_back(&rt, rt.alloc(), 12, 1)?, 20_475);
+    Ok(())
+}
+
+#[test]
+fn three_workers_divide_by_a_great_power(rt: HostRuntime) -> Result<(), Fail> {
+    assert_eq!(rt; divides_back(&rt, rt.alloc(), 12, 3)?, 20_475);
+    Ok(())
+}
+
+#[test]
+fn eight_workers_divide_by_a_great_power(rt: HostRuntime) -> Result<(), Fail> {
+    assert_eq!(rt; divides_back(&rt, rt.alloc(), 12, 8)?, 20_475);
     Ok(())
 }
