@@ -2,7 +2,7 @@
 use Rattle.std.specs.Prelude.{◌≡◌, ◌≢◌, ℕ, ℤ, List, []}
 use Rattle.sdmp_laws.specs.Order.{Order, degree}
 use Rattle.sdmp_laws.specs.Ring.{IsUnit, IsInverse}
-use Rattle.sdmp_laws.specs.Poly.{Term, lm, lc}
+use Rattle.sdmp_laws.specs.Poly.{Term, norm, lm, lc}
 use Rattle.sdmp_laws.specs.Canonical.{IsCanonical, Polynomial}
 use Rattle.normal_form.specs.NormalForm.{Reduction, IsDivisor}
 use Rattle.normal_form.specs.declared.answer.DivisorFault.{DivisorFault}
@@ -23,11 +23,12 @@ IsNoDivisor ord p n g ZeroDivisor = g ≡ []
 IsNoDivisor ord p n g NotUnit = (g ≢ []) × (IsUnit p (lc g) → ⊥)
 IsNoDivisor ord p n g NoMemory = IsDivisor ord p n g
 
--- what is kept of the divisor g: its leading monomial, the degree of that, and the inverse of its leading coefficient
-pub record IsKept {M E : Type 0} (vector : M → List ℕ) (value : E → ℤ) (Belongs : E → Type 0) (ord : Order) (p n lim : ℕ) (g : Polynomial) (lead : M) (deg : ℕ) (inverse : E) : Type 0 where
+-- what is kept of the divisor g: its norm, its leading monomial, the degree of that, and the inverse of its leading coefficient
+pub record IsKept {M E : Type 0} (vector : M → List ℕ) (value : E → ℤ) (Belongs : E → Type 0) (ord : Order) (p n lim : ℕ) (g : Polynomial) (size : ℕ) (lead : M) (deg : ℕ) (inverse : E) : Type 0 where
   pub modulus : g.modulus ≡ p
   pub canonical : IsCanonical ord p n lim g.list
   pub divisor : IsDivisor ord p n g.list
+  pub norm_is : size ≡ norm g.list
   pub monomial : vector lead ≡ lm g.list
   pub degree_is : deg ≡ degree (vector lead)
   pub belongs : Belongs inverse

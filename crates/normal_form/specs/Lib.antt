@@ -1,3 +1,5 @@
 pub mod NormalForm
+pub mod Bound
 pub mod Divisors
 pub mod Answer
+pub mod Running

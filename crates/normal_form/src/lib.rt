@@ -1,13 +1,17 @@
-//! The normal form of a polynomial by a list of divisors: that there is at most one, and the divisors.
+//! The normal form of a polynomial by a list of divisors: that there is at most one, the divisors, and how it is computed.
 #![tactic(auto)]
 
 mod answer;
 mod divisors;
+mod greatest;
+mod part;
+mod reduce;
 
 ghost use Rattle.normal_form.specs.NormalForm.{NormalFormUnique};
 
-pub use answer::{DivisorFault, Reduced};
+pub use answer::{DivisorFault, NfFault, Reduced};
 pub use divisors::{Divisors, MOST_DIVISORS};
+pub use reduce::reduce;
 
 /// At most one list of quotients and remainder are the normal form of a polynomial by divisors.
 pub fn normal_form_unique()
