@@ -1,3 +1,10 @@
 pub mod Products
 pub mod Unique
 pub mod Kept
+pub mod Pushed
+pub mod Forms
+pub mod Ranks
+pub mod Complete
+pub mod Passing
+pub mod Taken
+pub mod Turns

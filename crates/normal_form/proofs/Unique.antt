@@ -143,7 +143,7 @@ no_times : (g : List Term) (m : List ℕ) → total (times [] g) m ≡ pos 0
 unfolding times
 no_times g m = total_nil m
 
-no_products : (qs gs : List (List Term)) (m : List ℕ) → All (λ A. A ≡ []) qs → total (products qs gs) m ≡ pos 0
+pub no_products : (qs gs : List (List Term)) (m : List ℕ) → All (λ A. A ≡ []) qs → total (products qs gs) m ≡ pos 0
 unfolding products
 no_products [] gs m h = total_nil m
 no_products (q ∷ qs) [] m h = total_nil m
