@@ -8,3 +8,4 @@ pub mod Complete
 pub mod Passing
 pub mod Taken
 pub mod Turns
+pub mod Tops
